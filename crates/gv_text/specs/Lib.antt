@@ -1,0 +1,5 @@
+pub mod Number
+pub mod Grammar
+pub mod Script
+pub mod Report
+pub mod Guest

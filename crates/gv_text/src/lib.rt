@@ -1,0 +1,13 @@
+//! Script lines and report lines: a line is read in place, and a printed line stands in a buffer of
+//! 64 bytes, so neither takes memory.
+#![tactic(auto)]
+
+mod ending;
+mod parse;
+mod report_line;
+mod script_line;
+
+pub use ending::Ending;
+pub use parse::line;
+pub use report_line::ReportLine;
+pub use script_line::{BadLine, Guest, Line, Values};
