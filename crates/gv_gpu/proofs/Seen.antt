@@ -1,0 +1,37 @@
+-- What two devices with the same part have in common.
+use Rattle.std.proofs.Common.{◌≡◌, ℕ, Bool, true, false, [], None, Some, refl, ap, ◌∙◌, cond}
+use Rattle.gv_gpu.specs.Device.{Device}
+use Rattle.gv_gpu.specs.Part.{Part, inside}
+use Rattle.gv_types.specs.declared.ids.Label.{Label}
+
+shown : {A : Type 0} (b : Bool) (x y none : A) → b ≡ true → cond b x none ≡ y → x ≡ y
+shown true x y none is h = h
+shown false x y none is h = cc
+
+module _ (w : Part) (d e : Device) (same : inside w e ≡ inside w d) where
+  shown_label : (n : ℕ) (l : Label) → (b : Bool) → w.page n (e.label n) ≡ b → cond b (e.label n) None ≡ Some l → (b ≡ true) × (e.label n ≡ Some l)
+  shown_label n l true at h = (refl, h)
+  shown_label n l false at h = cc
+
+  both_labels : (n : ℕ) (l : Label) → w.page n (Some l) ≡ true → d.label n ≡ Some l → (w.page n (e.label n) ≡ true) × (e.label n ≡ Some l)
+  both_labels n l own is =
+      let here : w.page n (d.label n) ≡ true = ap (w.page n) is ∙ own in
+      shown_label n l (w.page n (e.label n)) refl (ap (λ (x : Device). x.label n) same ∙ ap (λ b. cond b (d.label n) None) here ∙ is)
+
+  -- A page of the part keeps its label and its words.
+  pub label-same : (n : ℕ) (l : Label) → w.page n (Some l) ≡ true → d.label n ≡ Some l → e.label n ≡ Some l
+  label-same n l own is = (both_labels n l own is).1
+
+  pub words-same : (n : ℕ) (l : Label) → w.page n (Some l) ≡ true → d.label n ≡ Some l → e.words n ≡ d.words n
+  words-same n l own is =
+      let here : w.page n (d.label n) ≡ true = ap (w.page n) is ∙ own in
+      shown (w.page n (e.label n)) (e.words n) (d.words n) [] (both_labels n l own is).0 (ap (λ (x : Device). x.words n) same ∙ ap (λ b. cond b (d.words n) []) here)
+
+  pub global-same : (i : ℕ) → w.entry i ≡ true → e.global i ≡ d.global i
+  global-same i own = shown (w.entry i) (e.global i) (d.global i) 0 own (ap (λ (x : Device). x.global i) same ∙ ap (λ b. cond b (d.global i) 0) own)
+
+  pub general-same : (k : ℕ) → w.engine k ≡ true → e.general k ≡ d.general k
+  general-same k own = shown (w.engine k) (e.general k) (d.general k) (λ _. 0) own (ap (λ (x : Device). x.general k) same ∙ ap (λ b. cond b (d.general k) (λ _. 0)) own)
+
+  pub loaded-same : (k : ℕ) → w.engine k ≡ true → e.loaded k ≡ d.loaded k
+  loaded-same k own = shown (w.engine k) (e.loaded k) (d.loaded k) None own (ap (λ (x : Device). x.loaded k) same ∙ ap (λ b. cond b (d.loaded k) None) own)
