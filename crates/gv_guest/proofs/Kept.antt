@@ -1,0 +1,26 @@
+-- A memory stands and holds the same where its part of the device is the same.
+use Rattle.std.proofs.Common.{◌≡◌, ℕ, ◌<◌, true, Some, length, get_or, sym, ap, ◌∙◌, refl}
+use Rattle.std.proofs.lemmas.List.{same_lists, get_or-map, length-map}
+use Rattle.gv_gpu.specs.Device.{Device}
+use Rattle.gv_gpu.specs.Part.{Part, inside}
+use Rattle.gv_gpu.proofs.Seen.{label-same, words-same}
+use Rattle.gv_guest.specs.Placed.{Placed, Stands, memory_in, frame_label}
+
+module _ (w : Part) (d e : Device) (placed : Placed) (own : (n : ℕ) → w.page n (Some (frame_label placed.guest)) ≡ true) (same : inside w e ≡ inside w d) where
+  label : (k : ℕ) → d.label k ≡ Some (frame_label placed.guest) → e.label k ≡ Some (frame_label placed.guest)
+  label k h = label-same w d e same k (frame_label placed.guest) (own k) h
+
+  pub stands-kept : Stands d placed → Stands e placed
+  stands-kept stands = record {
+    labelled = λ k h. label (get_or placed.pages k 0) (stands.labelled k h);
+    long = λ k h. ap length (words-same w d e same (get_or placed.pages k 0) (frame_label placed.guest) (own (get_or placed.pages k 0)) (stands.labelled k h)) ∙ stands.long k h;
+    below = stands.below;
+    apart = stands.apart;
+    all = λ n h. stands.all n (label-same w e d (sym same) n (frame_label placed.guest) (own n) h);
+  }
+
+  pub memory-kept : Stands d placed → memory_in e placed ≡ memory_in d placed
+  memory-kept stands = same_lists _ _ (simp length-map refl) (λ k x h.
+      let hk : k < length placed.pages = rw length-map at h in
+      let page = get_or placed.pages k 0 in
+      get_or-map e.words placed.pages k 0 x hk ∙ words-same w d e same page (frame_label placed.guest) (own page) (stands.labelled k hk) ∙ sym (get_or-map d.words placed.pages k 0 x hk))
