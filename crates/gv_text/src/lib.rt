@@ -3,11 +3,13 @@
 #![tactic(auto)]
 
 mod ending;
+mod lines;
 mod parse;
 mod report_line;
 mod script_line;
 
 pub use ending::Ending;
+pub use lines::next_line;
 pub use parse::line;
 pub use report_line::ReportLine;
 pub use script_line::{BadLine, Guest, Line, Values};
