@@ -1,1 +1,4 @@
 pub mod LineParts
+pub mod Digits
+pub mod ValueSteps
+pub mod TooManyWords
