@@ -10,6 +10,7 @@ use Rattle.gv_types.specs.declared.event.Width.TheVariants.{Four, Eight}
 use Rattle.gv_types.specs.declared.event.Place.{Place}
 use Rattle.gv_types.specs.declared.event.Place.TheVariants as places
 use Rattle.gv_text.specs.Number.{◌>>=◌, check, number_below}
+use Rattle.gv_text.specs.declared.script_line.BadLine.{BadLine}
 use Rattle.gv_text.specs.declared.script_line.Line.{Line}
 use Rattle.gv_text.specs.declared.script_line.Line.TheVariants.{Blank, Guest, Read, Write, End}
 
@@ -95,6 +96,9 @@ says_nothing (b ∷ bs) = b == 35
 -- The line that the bytes are, without their line feed.
 abbrev pub line_of : List ℕ → Option Line
 line_of bytes = if nat_lt 256 (length bytes) then None else (if says_nothing bytes then Some Blank else line_of_words (words_of bytes))
+
+abbrev pub bad_line : BadLine
+bad_line = record {}
 
 -- what holds of each line
 abbrev pub IsForm : Line → Type 0

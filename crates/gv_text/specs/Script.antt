@@ -78,6 +78,11 @@ is_last_line part = nat_lt 0 (length part)
 abbrev pub is_too_long : List ℕ → Bool
 is_too_long part = nat_lt 256 (length part)
 
+-- what counts as a line behind the last line feed, by whether the source ends there
+abbrev pub counts_last : Bool → List ℕ → Bool
+counts_last true = is_last_line
+counts_last false = is_too_long
+
 abbrev pub too_long : ℕ → Ending
 too_long n = TooLong
 

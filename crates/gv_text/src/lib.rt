@@ -3,11 +3,17 @@
 #![tactic(auto)]
 
 mod ending;
+mod fields;
+mod lines;
+mod number;
 mod parse;
 mod report_line;
 mod script_line;
+mod values;
 
 pub use ending::Ending;
+pub use lines::next_line;
 pub use parse::line;
 pub use report_line::ReportLine;
-pub use script_line::{BadLine, Guest, Line, Values};
+pub use script_line::{BadLine, Guest, Line};
+pub use values::Values;

@@ -1,7 +1,5 @@
-ghost use Rattle.std.specs.Prelude.{◌≡◌, ℕ, ◌<◌, ◌≤◌, length};
-
+use crate::Values;
 use gv_types::{Place, Width};
-use std::marker::Model;
 
 /// A `guest` line: frames of memory, and pages of the low and of the high part of the global table.
 #[derive(Clone, Copy, Debug, PartialEq, Eq)]
@@ -11,25 +9,8 @@ pub struct Guest {
     pub high: u32,
 }
 
-/// The values of a line of writes, 1 to 16 of them; a clause sees them as a list.
-#[derive(Debug, Drop)]
-pub struct Values {
-    items: [u64; 16],
-    count: usize,
-}
-
-impl Model for Values {
-    ghost use Rattle.std.specs.Prelude.{ℕ, List, take, ◌≤◌};
-
-    ghost Value = { List ℕ };
-
-    ghost view = { λ v. take v.count v.items };
-
-    ghost invariant = { λ v. v.count ≤ 16 };
-}
-
 /// What a line of a script says.
-#[derive(Debug, Drop)]
+#[derive(Debug, PartialEq, Eq, Drop)]
 pub enum Line {
     Blank,
     Guest(Guest),

@@ -1,0 +1,4 @@
+pub mod LineParts
+pub mod Digits
+pub mod ValueSteps
+pub mod TooManyWords
