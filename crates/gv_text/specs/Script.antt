@@ -1,61 +1,74 @@
 -- A script: from its bytes to the lines that are accepted, and how it ends.
-use Rattle.std.specs.Prelude.{ℕ, ◌+◌, List, [], ◌∷◌, ◌++◌, Option, Some, None, Bool, true, false, not, nat_lt, nat_le, ◌==◌, ◌&&◌, if◌then◌else◌, length, take, sum_by}
+use Rattle.std.specs.Prelude.{ℕ, ◌+◌, List, [], ◌∷◌, Option, Some, None, Bool, true, false, not, nat_lt, nat_le, ◌==◌, ◌&&◌, if◌then◌else◌, length, take}
 use Rattle.std.specs.List.{slice_split}
+use Rattle.gv_text.specs.Number.{◌>>=◌, check}
 use Rattle.gv_text.specs.Grammar.{line_of}
+use Rattle.gv_text.specs.declared.known.Known.{Known}
 use Rattle.gv_text.specs.declared.script_line.Line.{Line}
 use Rattle.gv_text.specs.declared.script_line.Line.TheVariants.{Blank, Guest, Read, Write, End}
 use Rattle.gv_text.specs.declared.script_line.Guest.{Guest as GuestForm}
 use Rattle.gv_text.specs.declared.ending.Ending.{Ending}
 use Rattle.gv_text.specs.declared.ending.Ending.TheVariants.{Done, BadScript, TooLong}
 
--- what the accepted lines so far have settled: the guests, and whether an event came
-pub record Known : Type 0 where
-  pub guests : List GuestForm
-  pub begun : Bool
-
+-- What the accepted lines have settled: how many guests there are, their frames, low pages and high
+-- pages in all, and whether an event came.
 abbrev pub nothing_known : Known
-nothing_known = record { guests = []; begun = false }
+nothing_known = record { guests = 0; frames = 0; low = 0; high = 0; begun = false }
 
 -- whether there is room for one more guest
-abbrev pub has_room : List GuestForm → GuestForm → Bool
-has_room guests g =
-    nat_lt (length guests) 8
-    && nat_le (sum_by (λ g. g.frames) guests + g.frames) 16384
-    && nat_le (sum_by (λ g. g.low) guests + g.low) 65536
-    && nat_le (sum_by (λ g. g.high) guests + g.high) 966656
+abbrev pub has_room : Known → GuestForm → Bool
+has_room known g =
+    nat_lt known.guests 8
+    && nat_le (known.frames + g.frames) 16384
+    && nat_le (known.low + g.low) 65536
+    && nat_le (known.high + g.high) 966656
 
--- whether a line is accepted there: a guest before any event, and an event of a guest that is there
+-- A guest is accepted before any event; an event, where its guest is there; `end`, where any is.
 abbrev pub accepts : Known → Line → Bool
 accepts known Blank = true
-accepts known (Guest g) = not known.begun && has_room known.guests g
-accepts known (Read guest place width at) = nat_lt guest (length known.guests)
-accepts known (Write guest place width at values) = nat_lt guest (length known.guests)
-accepts known End = nat_lt 0 (length known.guests)
+accepts known (Guest g) = not known.begun && has_room known g
+accepts known (Read guest place width at) = nat_lt guest known.guests
+accepts known (Write guest place width at values) = nat_lt guest known.guests
+accepts known End = nat_lt 0 known.guests
 accepts known line = false
 
 abbrev pub known_after : Known → Line → Known
 known_after known Blank = known
-known_after known (Guest g) = record known { guests = known.guests ++ g ∷ [] }
+known_after known (Guest g) = record known { guests = known.guests + 1; frames = known.frames + g.frames; low = known.low + g.low; high = known.high + g.high }
 known_after known line = record known { begun = true }
+
+-- the line that the bytes are, where it is accepted
+abbrev pub accepted : Known → List ℕ → Option Line
+accepted known bytes = line_of bytes >>= λ line. check (accepts known line) line
+
+abbrev pub is_end : Line → Bool
+is_end End = true
+is_end line = false
 
 pub record Script : Type 0 where
   pub lines : List Line
   pub ending : Ending
 
+abbrev pub ends : Ending → Script
+ends ending = record { lines = []; ending = ending }
+
 abbrev pub onto_script : Line → Script → Script
 onto_script line script = record script { lines = line ∷ script.lines }
 
--- What follows of the script when its line with number n is the given one: `rest` is the script
--- from the next line on. What is behind an accepted `end` isn't judged.
+-- What line number n makes of the script: `rest` is what follows it. What follows `end` isn't judged.
 abbrev pub script_on : Known → ℕ → Option Line → (Known → Script) → Script
-script_on known n None rest = record { lines = []; ending = BadScript n }
-script_on known n (Some End) rest = record { lines = []; ending = if accepts known End then Done else BadScript n }
-script_on known n (Some line) rest = if accepts known line then onto_script line (rest (known_after known line)) else record { lines = []; ending = BadScript n }
+script_on known n None rest = ends (BadScript n)
+script_on known n (Some line) rest = if is_end line then ends Done else onto_script line (rest (known_after known line))
 
--- The script of lines from number n on. `missing` is its ending where they end without `end`.
-abbrev pub script_from : (ℕ → Ending) → Known → ℕ → List (List ℕ) → Script
-script_from missing known n [] = record { lines = []; ending = missing n }
-script_from missing known n (line ∷ lines) = script_on known n (line_of line) (λ next. script_from missing next (n + 1) lines)
+-- the ending where no line is left and none was `end`, by whether the source ends there
+abbrev pub missing : Bool → ℕ → Ending
+missing true n = BadScript n
+missing false n = TooLong
+
+-- the script of lines from number n on
+abbrev pub script_from : Bool → Known → ℕ → List (List ℕ) → Script
+script_from whole known n [] = ends (missing whole n)
+script_from whole known n (bytes ∷ lines) = script_on known n (accepted known bytes) (λ next. script_from whole next (n + 1) lines)
 
 abbrev pub is_line_feed : ℕ → Bool
 is_line_feed b = b == 10
@@ -83,14 +96,13 @@ abbrev pub counts_last : Bool → List ℕ → Bool
 counts_last true = is_last_line
 counts_last false = is_too_long
 
-abbrev pub too_long : ℕ → Ending
-too_long n = TooLong
+-- the script that a text is, by whether the source ends with it
+abbrev pub script_in : Bool → List ℕ → Script
+script_in whole text = script_from whole nothing_known 1 (lines_of (counts_last whole) text)
 
 -- a script has at most 64 MiB
 abbrev pub script_limit : ℕ
 script_limit = 67108864
 
 unfoldable pub script_of : List ℕ → Script
-script_of source =
-    if nat_le (length source) script_limit then script_from BadScript nothing_known 1 (lines_of is_last_line source)
-    else script_from too_long nothing_known 1 (lines_of is_too_long (take script_limit source))
+script_of source = if nat_le (length source) script_limit then script_in true source else script_in false (take script_limit source)

@@ -4,6 +4,7 @@
 
 mod ending;
 mod fields;
+mod known;
 mod lines;
 mod number;
 mod parse;
@@ -12,6 +13,7 @@ mod script_line;
 mod values;
 
 pub use ending::Ending;
+pub use known::Known;
 pub use lines::next_line;
 pub use parse::line;
 pub use report_line::ReportLine;

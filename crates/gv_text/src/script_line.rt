@@ -50,6 +50,18 @@ pub enum Line {
     End,
 }
 
+impl Line {
+    ghost use Rattle.std.specs.Prelude.{◌≡◌};
+    ghost use Rattle.gv_text.specs.Script.{is_end};
+
+    /// Whether it is the line `end`.
+    pub fn is_end(&self) -> bool
+        ensures { result ≡ is_end self.now }
+    {
+        matches!(self, Line::End)
+    }
+}
+
 /// The bytes aren't a line of a script.
 #[derive(Clone, Copy, Debug, PartialEq, Eq)]
 pub struct BadLine;
