@@ -1,0 +1,5 @@
+pub mod Device
+pub mod Machine
+pub mod Report
+pub mod Solo
+pub mod Tied

@@ -1,0 +1,5 @@
+//! The whole program: a script is read, run over the shared device, and its report written.
+#![tactic(auto)]
+
+mod machine;
+pub use machine::event;
