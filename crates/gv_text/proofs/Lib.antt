@@ -2,3 +2,4 @@ pub mod LineParts
 pub mod Digits
 pub mod ValueSteps
 pub mod TooManyWords
+pub mod Hex
