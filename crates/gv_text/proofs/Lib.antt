@@ -3,3 +3,4 @@ pub mod Digits
 pub mod ValueSteps
 pub mod TooManyWords
 pub mod Hex
+pub mod Joined

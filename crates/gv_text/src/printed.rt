@@ -75,11 +75,20 @@ impl Printed {
         ensures value { self.new ≡ self.old ++ 32 ∷ hex number }
         ensures len { length self.new ≤ length self.old + 9 }
     {
-        self.number(u64::from(number));
+        self.digits(u64::from(number));
     }
 
-    /// A number, in hexadecimal digits without leading zeros.
+    /// A number of at most 16 digits.
     pub(crate) fn number(&mut self, number: u64)
+        requires { length self.old + 16 < 64 }
+        ensures value { self.new ≡ self.old ++ 32 ∷ hex number }
+        ensures len { length self.new ≤ length self.old + 17 }
+    {
+        self.digits(number);
+    }
+
+    /// The hexadecimal digits of a number, without leading zeros, as one more word.
+    fn digits(&mut self, number: u64)
         requires { length self.old + length (hex number) < 64 }
         ensures value { self.new ≡ self.old ++ 32 ∷ hex number }
         ensures len { length self.new ≡ length self.old + length (hex number) + 1 }

@@ -1,7 +1,7 @@
 use Rattle.std.proofs.Common.{◌≡◌, ◌<◌, ◌≤◌, ◌^◌, length}
 use Rattle.gv_text.specs.Report.{hex}
 use Rattle.gv_text.proofs.Hex.{all_digits}
-use Rattle.gv_text.proofs.printed.Printed.number.Given as goal
+use Rattle.gv_text.proofs.printed.Printed.digits.Given as goal
 
 abbrev pub invariant-loop-rest : goal.invariant-loop-rest
 invariant-loop-rest l = record {
