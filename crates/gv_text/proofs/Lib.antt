@@ -2,3 +2,5 @@ pub mod LineParts
 pub mod Digits
 pub mod ValueSteps
 pub mod TooManyWords
+pub mod Hex
+pub mod Joined
