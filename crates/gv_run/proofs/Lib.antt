@@ -1,1 +1,4 @@
+pub mod AddedGuest
 pub mod OneGuest
+pub mod Text
+pub mod Values

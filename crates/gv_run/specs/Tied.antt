@@ -9,6 +9,7 @@ use Rattle.gv_gpu.specs.Part.{Part}
 use Rattle.gv_guest.specs.Placed.{Placed, Stands, memory_in, nowhere}
 use Rattle.gv_run.specs.Device.{PrivateDevice}
 use Rattle.gv_run.specs.Machine.{Machine}
+use Rattle.gv_text.specs.declared.known.Known.{Known}
 
 -- each guest's memory stands, and further guests have no frames
 pub record Ties (d : Device) (guests : List Placed) : Type 0 where
@@ -36,3 +37,11 @@ abbrev pub IsAccess : Event → Type 0
 IsAccess (Read guest place width at) = at % bytes_of width ≡ 0
 IsAccess (Write guest place width at value) = (at % bytes_of width ≡ 0) × (value ≤ all_ones width)
 IsAccess event = Unit {0}
+
+-- The guests are those that are known, with the frames that are known; nothing else is live.
+pub record Agrees (d : Device) (known : Known) (guests : List Placed) : Type 0 where
+  pub ties : Ties d guests
+  pub count : length guests ≡ known.guests
+  pub live : d.live ≡ known.frames
+  pub few : known.frames ≤ 16384
+  pub eight : known.guests ≤ 8

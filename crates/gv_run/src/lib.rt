@@ -2,4 +2,5 @@
 #![tactic(auto)]
 
 mod machine;
+mod run;
 pub use machine::event;

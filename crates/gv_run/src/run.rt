@@ -1,0 +1,157 @@
+ghost use Rattle.std.specs.Prelude.{◌≡◌, ℕ, ◌+◌, ◌*◌, ◌/◌, ◌%◌, ◌^◌, ◌<◌, ◌≤◌, ◌++◌, length, OnOk, IfSome, true, option_to_list, [], ◌∷◌};
+ghost use Rattle.gv_types.specs.Memory.{bytes_of, all_ones};
+ghost use Rattle.gv_gpu.specs.Part.{outside};
+ghost use Rattle.gv_text.specs.Grammar.{IsForm, value_limit};
+ghost use Rattle.gv_text.specs.Report.{report_text, text_of, IsPrintable};
+ghost use Rattle.gv_text.specs.Script.{nothing_known, has_room, accepts, known_after};
+ghost use Rattle.gv_text.specs.declared.script_line.Line.TheVariants.{Guest as GuestLine};
+ghost use Rattle.std.specs.List.{AllByRecursion};
+ghost use Rattle.gv_run.specs.Device.{guest_of, new_device};
+ghost use Rattle.gv_run.specs.Machine.{machine_after, machine_reply, writes_of, run_events, events_of, line_after};
+ghost use Rattle.gv_run.specs.Report.{told, events_said};
+ghost use Rattle.gv_run.specs.Tied.{Agrees, IsAccess, machine_in, all_frames};
+
+use crate::machine;
+use gv_gpu::Gpu;
+use gv_guest::Memory;
+use gv_text::{Guest, Known, Line, ReportLine, print};
+use gv_types::{Answer, Event, GuestId, OutOfMemory, Place, Reply, Width};
+use std::alloc::Global;
+
+// Writes a line at the report's end.
+fn tell(report: &mut Vec<u8>, line: &ReportLine) -> Result<(), OutOfMemory>
+    requires { IsPrintable line.now }
+    ensures { OnOk result (report.new.items ≡ report.old.items ++ report_text line.now) }
+{
+    report.extend_from_slice(print(line).bytes())?;
+    Ok(())
+}
+
+// What is told of an event.
+fn told_line(event: &Event, reply: &Reply) -> Option<ReportLine>
+    ensures value { option_to_list result ≡ told event.now reply.now reply.now.answer }
+    ensures printable { reply.now.guest.0 < 8 → IfSome result IsPrintable }
+{
+    match event {
+        Event::Read {
+            place, width, at, ..
+        } => match reply.answer {
+            Answer::Value(value) => Some(ReportLine::Read {
+                guest: reply.guest,
+                place: *place,
+                width: *width,
+                at: *at,
+                value,
+            }),
+            _ => None,
+        },
+        Event::Write { .. } => None,
+        Event::Turn { .. } => None,
+        Event::Switch { .. } => None,
+        Event::Move { .. } => None,
+        Event::Reset { .. } => None,
+    }
+}
+
+// Writes what is told of an event.
+fn tell_reply(report: &mut Vec<u8>, event: &Event, reply: &Reply) -> Result<(), OutOfMemory>
+    requires { reply.now.guest.0 < 8 }
+    ensures { OnOk result (report.new.items ≡ report.old.items ++ text_of (told event.now reply.now reply.now.answer)) }
+{
+    match told_line(event, reply) {
+        Some(line) => tell(report, &line),
+        None => Ok(()),
+    }
+}
+
+/// A script that runs: what its lines have settled, the guests' memories, and the report so far.
+#[derive(Drop)]
+pub struct Run {
+    pub known: Known,
+    pub guests: Vec<Memory>,
+    pub report: Vec<u8>,
+}
+
+impl Run {
+    /// Before the first line.
+    pub fn new(alloc: Global) -> Run
+        ensures known { result.known ≡ nothing_known }
+        ensures guests { result.guests.items ≡ [] }
+        ensures report { result.report.items ≡ [] }
+    {
+        Run {
+            known: Known::NOTHING,
+            guests: Vec::new(alloc),
+            report: Vec::new(alloc),
+        }
+    }
+
+    // One event of a guest that is there.
+    fn event<G: Gpu>(&mut self, gpu: &mut G, event: &Event) -> Result<(), OutOfMemory>
+        requires agrees { Agrees (G.state gpu.old) self.old.known self.old.guests.items }
+        requires there { (guest_of event.now).0 < self.old.known.guests }
+        requires access { IsAccess event.now }
+        ensures agrees { Agrees (G.state gpu.new) self.new.known self.new.guests.items }
+        ensures kept { self.new ≡ record self.old { report = self.new.report } }
+        ensures machine { machine_in (G.state gpu.new) self.new.guests.items
+            ≡ machine_after (machine_in (G.state gpu.old) self.old.guests.items) event.now }
+        ensures report { OnOk result (self.new.report.items ≡ self.old.report.items
+            ++ text_of (events_said (machine_in (G.state gpu.old) self.old.guests.items) (event.now ∷ []))) }
+        ensures outside { outside all_frames (G.state gpu.new) ≡ outside all_frames (G.state gpu.old) }
+    {
+        let reply = machine::event(gpu, &self.guests, event);
+        tell_reply(&mut self.report, event, &reply)
+    }
+
+    // A line of writes: one event for each value, at rising addresses.
+    fn writes<G: Gpu>(
+        &mut self,
+        gpu: &mut G,
+        guest: GuestId,
+        place: Place,
+        width: Width,
+        at: u64,
+        values: &[u64],
+    ) -> Result<(), OutOfMemory>
+        requires agrees { Agrees (G.state gpu.old) self.old.known self.old.guests.items }
+        requires there { guest.0 < self.old.known.guests }
+        requires aligned { at % bytes_of width ≡ 0 }
+        requires within { at + bytes_of width * length values.now ≤ 2 ^ 64 }
+        requires fit { AllByRecursion (λ value. value < value_limit width) values.now }
+        ensures agrees { Agrees (G.state gpu.new) self.new.known self.new.guests.items }
+        ensures kept { self.new ≡ record self.old { report = self.new.report } }
+        ensures machine { OnOk result (machine_in (G.state gpu.new) self.new.guests.items
+            ≡ run_events (machine_in (G.state gpu.old) self.old.guests.items) (writes_of guest place width at values.now)) }
+        ensures report { OnOk result (self.new.report.items ≡ self.old.report.items
+            ++ text_of (events_said (machine_in (G.state gpu.old) self.old.guests.items) (writes_of guest place width at values.now))) }
+        ensures outside { outside all_frames (G.state gpu.new) ≡ outside all_frames (G.state gpu.old) }
+    {
+        for (index, value) in values.iter().enumerate() {
+            let write = Event::Write {
+                guest,
+                place,
+                width,
+                at: at + width.bytes() * index as u64,
+                value: *value,
+            };
+            self.event(gpu, &write)?;
+        }
+        Ok(())
+    }
+
+    // A `guest` line.
+    fn guest<G: Gpu>(&mut self, alloc: Global, gpu: &mut G, guest: &Guest) -> Result<(), OutOfMemory>
+        requires agrees { Agrees (G.state gpu.old) self.old.known self.old.guests.items }
+        requires room { has_room self.old.known guest.now ≡ true }
+        ensures agrees { OnOk result (Agrees (G.state gpu.new) (known_after self.old.known (GuestLine guest.now)) self.new.guests.items) }
+        ensures kept { self.new ≡ record self.old { guests = self.new.guests } }
+        ensures machine { OnOk result (machine_in (G.state gpu.new) self.new.guests.items
+            ≡ machine_in (G.state gpu.old) self.old.guests.items ++ new_device guest.now.frames ∷ []) }
+        ensures outside { outside all_frames (G.state gpu.new) ≡ outside all_frames (G.state gpu.old) }
+    {
+        self.guests.reserve(1)?;
+        let memory = Memory::new(alloc, gpu, GuestId(self.known.guests), guest.frames)?;
+        self.guests.push(memory).unwrap();
+        Ok(())
+    }
+}
