@@ -1,0 +1,11 @@
+use Rattle.std.proofs.Common.{◌≡◌}
+use Rattle.std.specs.Io.KnownBytes.{Keeps}
+use Rattle.gv_outside.proofs.std_sink.StdSinkSink.write.Given as goal
+
+abbrev pub invariant-loop : goal.invariant-loop
+invariant-loop g l =
+    let known = g.W.Write.contents in
+    record {
+      none : l.self.faults ≡ l.fn.self.faults;
+      kept : Keeps (known l.fn.self.inner) (known l.self.inner);
+    }

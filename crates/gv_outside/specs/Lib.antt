@@ -1,0 +1,5 @@
+pub mod Causes
+pub mod SourceState
+pub mod SinkState
+pub mod StdSource
+pub mod StdSink
