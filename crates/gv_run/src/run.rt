@@ -154,4 +154,77 @@ impl Run {
         self.guests.push(memory).unwrap();
         Ok(())
     }
+
+    // Does what an accepted line says, before it counts as known.
+    #[tactic(auto, using(crate::proofs::Text::said_none, crate::proofs::Agreed::agrees_begun))]
+    fn act<G: Gpu>(&mut self, alloc: Global, gpu: &mut G, line: &Line) -> Result<(), OutOfMemory>
+        requires agrees { Agrees (G.state gpu.old) self.old.known self.old.guests.items }
+        requires accepted { accepts self.old.known line.now ≡ true }
+        requires form { IsForm line.now }
+        ensures agrees { OnOk result (Agrees (G.state gpu.new) (known_after self.old.known line.now) self.new.guests.items) }
+        ensures known { self.new.known ≡ self.old.known }
+        ensures machine { OnOk result (machine_in (G.state gpu.new) self.new.guests.items
+            ≡ line_after (machine_in (G.state gpu.old) self.old.guests.items) line.now) }
+        ensures report { OnOk result (self.new.report.items ≡ self.old.report.items
+            ++ text_of (events_said (machine_in (G.state gpu.old) self.old.guests.items) (events_of line.now))) }
+        ensures outside { outside all_frames (G.state gpu.new) ≡ outside all_frames (G.state gpu.old) }
+    {
+        match line {
+            Line::Guest(guest) => self.guest(alloc, gpu, guest),
+            Line::Read {
+                guest,
+                place,
+                width,
+                at,
+            } => {
+                let read = Event::Read {
+                    guest: GuestId(*guest),
+                    place: *place,
+                    width: *width,
+                    at: *at,
+                };
+                self.event(gpu, &read)
+            }
+            Line::Write {
+                guest,
+                place,
+                width,
+                at,
+                values,
+            } => {
+                let guest = GuestId(*guest);
+                self.writes(gpu, guest, *place, *width, *at, values.as_slice())
+            }
+            Line::Blank => Ok(()),
+            Line::Elsp { .. } => Ok(()),
+            Line::Turn { .. } => Ok(()),
+            Line::Switch { .. } => Ok(()),
+            Line::Move { .. } => Ok(()),
+            Line::Reset { .. } => Ok(()),
+            Line::End => Ok(()),
+        }
+    }
+
+    /// Runs a line that is accepted there. `end` is left to the caller.
+    pub fn line<G: Gpu>(
+        &mut self,
+        alloc: Global,
+        gpu: &mut G,
+        line: &Line,
+    ) -> Result<(), OutOfMemory>
+        requires agrees { Agrees (G.state gpu.old) self.old.known self.old.guests.items }
+        requires accepted { accepts self.old.known line.now ≡ true }
+        requires form { IsForm line.now }
+        ensures agrees { OnOk result (Agrees (G.state gpu.new) self.new.known self.new.guests.items) }
+        ensures known { OnOk result (self.new.known ≡ known_after self.old.known line.now) }
+        ensures machine { OnOk result (machine_in (G.state gpu.new) self.new.guests.items
+            ≡ line_after (machine_in (G.state gpu.old) self.old.guests.items) line.now) }
+        ensures report { OnOk result (self.new.report.items ≡ self.old.report.items
+            ++ text_of (events_said (machine_in (G.state gpu.old) self.old.guests.items) (events_of line.now))) }
+        ensures outside { outside all_frames (G.state gpu.new) ≡ outside all_frames (G.state gpu.old) }
+    {
+        self.act(alloc, gpu, line)?;
+        self.known = self.known.after(line);
+        Ok(())
+    }
 }
