@@ -35,3 +35,7 @@ said_one before after line said = said ∙ ap (λ z. before ++ z) (sym (text_of-
 pub ok_then : {T E : Type 0} {P Q : Type 0} (r : Result T E) → (P → Q) → OnOk r P → OnOk r Q
 ok_then (Ok x) f h = f h
 ok_then (Err e) f h = tt
+
+-- two pieces, one after the other
+pub said_twice : (before mid after : List ℕ) (xs ys : List ReportLine) → mid ≡ before ++ text_of xs → after ≡ mid ++ text_of ys → after ≡ before ++ text_of (xs ++ ys)
+said_twice before mid after xs ys first second = second ∙ said_more before mid xs ys first

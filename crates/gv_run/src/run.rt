@@ -1,6 +1,7 @@
 ghost use Rattle.std.specs.Prelude.{◌≡◌, ℕ, ◌+◌, ◌*◌, ◌/◌, ◌%◌, ◌^◌, ◌<◌, ◌≤◌, ◌++◌, length, OnOk, IfSome, true, option_to_list, [], ◌∷◌};
 ghost use Rattle.gv_types.specs.Memory.{bytes_of, all_ones};
 ghost use Rattle.gv_gpu.specs.Part.{outside};
+ghost use Rattle.gv_guest.specs.Placed.{Stands, memory_in};
 ghost use Rattle.gv_text.specs.Grammar.{IsForm, value_limit};
 ghost use Rattle.gv_text.specs.Report.{report_text, text_of, IsPrintable};
 ghost use Rattle.gv_text.specs.Script.{nothing_known, has_room, accepts, known_after};
@@ -8,20 +9,21 @@ ghost use Rattle.gv_text.specs.declared.script_line.Line.TheVariants.{Guest as G
 ghost use Rattle.std.specs.List.{AllByRecursion};
 ghost use Rattle.gv_run.specs.Device.{guest_of, new_device};
 ghost use Rattle.gv_run.specs.Machine.{machine_after, machine_reply, writes_of, run_events, events_of, line_after};
-ghost use Rattle.gv_run.specs.Report.{told, events_said};
-ghost use Rattle.gv_run.specs.Tied.{Agrees, IsAccess, machine_in, all_frames};
+ghost use Rattle.gv_run.specs.Report.{told, events_said, words_said, memory_said, memories_said, ending_said};
+ghost use Rattle.gv_run.specs.Tied.{Ties, Agrees, IsAccess, machine_in, all_frames};
 
 use crate::machine;
 use gv_gpu::Gpu;
 use gv_guest::Memory;
-use gv_text::{Guest, Known, Line, ReportLine, print};
+use gv_text::{Ending, Guest, Known, Line, ReportLine, print};
 use gv_types::{Answer, Event, GuestId, OutOfMemory, Place, Reply, Width};
 use std::alloc::Global;
 
 // Writes a line at the report's end.
+#[tactic(auto, using(crate::proofs::Text::said_one))]
 fn tell(report: &mut Vec<u8>, line: &ReportLine) -> Result<(), OutOfMemory>
     requires { IsPrintable line.now }
-    ensures { OnOk result (report.new.items ≡ report.old.items ++ report_text line.now) }
+    ensures { OnOk result (report.new.items ≡ report.old.items ++ text_of (line.now ∷ [])) }
 {
     report.extend_from_slice(print(line).bytes())?;
     Ok(())
@@ -62,6 +64,57 @@ fn tell_reply(report: &mut Vec<u8>, event: &Event, reply: &Reply) -> Result<(), 
         Some(line) => tell(report, &line),
         None => Ok(()),
     }
+}
+
+// Tells a word of memory, unless it is 0.
+#[tactic(auto, using(crate::proofs::Text::said_none))]
+fn tell_word(
+    report: &mut Vec<u8>,
+    guest: GuestId,
+    at: u64,
+    value: u64,
+) -> Result<(), OutOfMemory>
+    requires { guest.0 < 8 }
+    ensures { OnOk result (report.new.items ≡ report.old.items ++ text_of (words_said guest.0 at (value ∷ []))) }
+{
+    if value == 0 {
+        return Ok(());
+    }
+    tell(report, &ReportLine::Memory { guest, at, value })
+}
+
+// Tells the words of a guest's memory that aren't 0, by address.
+fn tell_memory<G: Gpu>(
+    report: &mut Vec<u8>,
+    gpu: &G,
+    guest: GuestId,
+    memory: &Memory,
+) -> Result<(), OutOfMemory>
+    requires stands { Stands (G.state gpu.now) memory.now }
+    requires there { guest.0 < 8 }
+    ensures { OnOk result (report.new.items ≡ report.old.items ++ text_of (memory_said guest.0 (memory_in (G.state gpu.now) memory.now))) }
+{
+    for number in 0..u64::from(memory.frames()) * 512 {
+        let value = memory.read(gpu, number * 8, Width::Eight);
+        tell_word(report, guest, number * 8, value)?;
+    }
+    Ok(())
+}
+
+// Tells the memory of all guests, in order.
+fn tell_memories<G: Gpu>(
+    report: &mut Vec<u8>,
+    gpu: &G,
+    guests: &[Memory],
+) -> Result<(), OutOfMemory>
+    requires ties { Ties (G.state gpu.now) guests.now }
+    requires few { length guests.now ≤ 8 }
+    ensures { OnOk result (report.new.items ≡ report.old.items ++ text_of (memories_said 0 (machine_in (G.state gpu.now) guests.now))) }
+{
+    for (number, memory) in guests.iter().enumerate() {
+        tell_memory(report, gpu, GuestId(number as u8), memory)?;
+    }
+    Ok(())
 }
 
 /// A script that runs: what its lines have settled, the guests' memories, and the report so far.
@@ -226,5 +279,21 @@ impl Run {
         self.act(alloc, gpu, line)?;
         self.known = self.known.after(line);
         Ok(())
+    }
+
+    /// Writes what is said at the end.
+    pub fn finish<G: Gpu>(&mut self, gpu: &G, ending: Ending) -> Result<(), OutOfMemory>
+        requires { Agrees (G.state gpu.now) self.old.known self.old.guests.items }
+        ensures report { OnOk result (self.new.report.items ≡ self.old.report.items
+            ++ text_of (ending_said ending (machine_in (G.state gpu.now) self.old.guests.items))) }
+    {
+        match ending {
+            Ending::Done => {
+                tell_memories(&mut self.report, gpu, &self.guests)?;
+                tell(&mut self.report, &ReportLine::Done)
+            }
+            Ending::BadScript(number) => tell(&mut self.report, &ReportLine::Refused(number)),
+            Ending::TooLong => tell(&mut self.report, &ReportLine::TooLong),
+        }
     }
 }
