@@ -46,9 +46,13 @@ report_words (Lines count) = codes "lines" ∷ hex count ∷ []
 report_words (Bytes count) = codes "bytes" ∷ hex count ∷ []
 report_words (Fold value) = codes "fold" ∷ hex value ∷ []
 
--- the words, separated by one space, and a line feed
+-- the words, separated by one space
+abbrev pub line_text : ReportLine → List ℕ
+line_text line = join_with_byte 32 (report_words line)
+
+-- the same with a line feed
 unfoldable pub report_text : ReportLine → List ℕ
-report_text line = join_with_byte 32 (report_words line) ++ 10 ∷ []
+report_text line = line_text line ++ 10 ∷ []
 
 unfoldable pub text_of : List ReportLine → List ℕ
 text_of lines = flat_map report_text lines

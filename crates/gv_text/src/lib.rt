@@ -4,6 +4,7 @@
 
 mod ending;
 mod fields;
+mod guest_lines;
 mod lines;
 mod number;
 mod parse;
@@ -14,6 +15,7 @@ mod script_line;
 mod values;
 
 pub use ending::Ending;
+pub use guest_lines::lines_name_their_guest;
 pub use lines::next_line;
 pub use parse::line;
 pub use printed::Printed;
