@@ -1,18 +1,17 @@
 -- The lines of a text of report lines, and which of them are a guest's.
-use Rattle.std.proofs.Common.{◌≡◌, ◌≢◌, ℕ, zero, suc, ◌+◌, ◌<◌, ◌≤◌, Bool, true, false, not, ◌&&◌, List, [], ◌∷◌, ◌++◌, length, map, filter, take, eqb, ltb, cond, codes, refl, ap, sym, ◌∙◌, arith, one-add}
-use Rattle.std.proofs.lemmas.Bool.{ne_eqb, cond_both, not-true, lt-ltb}
+use Rattle.std.proofs.Common.{◌≡◌, ◌≢◌, ℕ, ◌+◌, ◌<◌, Bool, true, false, not, ◌&&◌, List, [], ◌∷◌, ◌++◌, length, map, filter, take, eqb, cond, codes, refl, ap, sym, ◌∙◌, arith, one-add}
+use Rattle.std.proofs.lemmas.Bool.{not-true, lt-ltb}
 use Rattle.std.proofs.lemmas.Bool.Decides.{nat_tests}
 use Rattle.std.proofs.lemmas.List.{append_assoc, append-nil}
 use Rattle.std.proofs.lemmas.List.Splits.{slice_split-cons_no}
 use Rattle.std.proofs.lemmas.Grind.{flat_map-append}
 use Rattle.std.proofs.lemmas.Fmt.{hex_one_digit}
-use Rattle.std.specs.Cmp.Lexicographic.{pointwise, unequal}
-use Rattle.std.specs.List.{slice_split, onto_first, before_first, position_or_len, flat_map, list_all, join_with_byte, AllByRecursion}
-use Rattle.std.specs.Fmt.{digit_glyph}
+use Rattle.std.specs.Cmp.Lexicographic.{unequal}
+use Rattle.std.specs.List.{slice_split, onto_first, before_first, position_or_len, flat_map, AllByRecursion}
 use Rattle.std.specs.Str.{bytes_eq}
 use Rattle.gv_text.specs.Grammar.{is_space}
 use Rattle.gv_text.specs.Script.{is_line_feed, is_last_line, lines_of_parts, lines_of}
-use Rattle.gv_text.specs.Report.{hex, report_words, line_text, report_text, text_of, IsPrintable}
+use Rattle.gv_text.specs.Report.{hex, line_text, report_text, text_of, IsPrintable}
 use Rattle.gv_text.specs.Guest.{begins_with_guest, lines_of_guest, speaks_of, LinesAreTheTexts, LinesNameTheirGuest}
 use Rattle.gv_text.specs.declared.report_line.ReportLine.{ReportLine}
 use Rattle.gv_text.specs.declared.report_line.ReportLine.TheVariants.{Read, Irq, Failsafe, Turn, Rota, Move, Reset, Memory, Done, Refused, TooLong, Lines, Bytes, Fold}

@@ -1,7 +1,6 @@
 -- No word of a report holds a space or a line feed.
-use Rattle.std.proofs.Common.{◌≡◌, ℕ, zero, suc, ◌+◌, ◌%◌, ◌/◌, ◌<◌, ◌≤◌, Bool, true, false, not, ◌&&◌, List, [], ◌∷◌, ◌++◌, length, map, take, eqb, ltb, cond, codes, refl, ap, sym, ◌∙◌, arith, if◌then◌else◌}
+use Rattle.std.proofs.Common.{◌≡◌, ℕ, zero, suc, ◌+◌, ◌%◌, ◌/◌, ◌<◌, Bool, true, false, not, ◌&&◌, List, [], ◌∷◌, ◌++◌, map, eqb, ltb, refl, ap, ◌∙◌, arith}
 use Rattle.std.proofs.lemmas.Bool.{cond_both, ne_eqb}
-use Rattle.std.specs.Bool.{◌==◌}
 use Rattle.std.specs.List.{list_all, join_with_byte}
 use Rattle.std.specs.Fmt.{digits, digits_onto, digit_glyph}
 use Rattle.gv_types.specs.declared.event.Width.{Width}
@@ -10,7 +9,7 @@ use Rattle.gv_types.specs.declared.event.Place.{Place}
 use Rattle.gv_types.specs.declared.event.Place.TheVariants as places
 use Rattle.gv_types.specs.declared.reply.Reason.{Reason}
 use Rattle.gv_types.specs.declared.reply.Reason.TheVariants as reasons
-use Rattle.gv_text.specs.Report.{hex, read_word, reason_word, report_words, line_text}
+use Rattle.gv_text.specs.Report.{hex, read_word, reason_word, moved_word, report_words, line_text}
 use Rattle.gv_text.specs.declared.report_line.ReportLine.{ReportLine}
 use Rattle.gv_text.specs.declared.report_line.ReportLine.TheVariants.{Read, Irq, Failsafe, Turn, Rota, Move, Reset, Memory, Done, Refused, TooLong, Lines, Bytes, Fold}
 
@@ -61,9 +60,9 @@ reason_word_is_word reasons.Context = refl
 reason_word_is_word reasons.Size = refl
 reason_word_is_word reasons.Entry = refl
 
-moved_is_word : (moved : Bool) → is_word (if moved then codes "moved" else codes "kept") ≡ true
-moved_is_word true = refl
-moved_is_word false = refl
+moved_word_is_word : (moved : Bool) → is_word (moved_word moved) ≡ true
+moved_word_is_word true = refl
+moved_word_is_word false = refl
 
 pub words_are_words : (line : ReportLine) → list_all is_word (report_words line) ≡ true
 words_are_words (Read guest place width at value) = both (hex_is_word guest.0) (both (read_word_is_word place width) (both (hex_is_word at) (both (hex_is_word value) refl)))
@@ -71,7 +70,7 @@ words_are_words (Irq guest value) = both (hex_is_word guest.0) (both (hex_is_wor
 words_are_words (Failsafe guest reason) = both (hex_is_word guest.0) (both (reason_word_is_word reason) refl)
 words_are_words (Turn guest engine counts) = both (hex_is_word guest.0) (both (hex_is_word engine.0) (hexes_are_words counts))
 words_are_words (Rota engine guest) = both (hex_is_word engine.0) (both (hex_is_word guest.0) refl)
-words_are_words (Move guest frame moved) = both (hex_is_word guest.0) (both (hex_is_word frame) (both (moved_is_word moved) refl))
+words_are_words (Move guest frame moved) = both (hex_is_word guest.0) (both (hex_is_word frame) (both (moved_word_is_word moved) refl))
 words_are_words (Reset guest) = both (hex_is_word guest.0) refl
 words_are_words (Memory guest at value) = both (hex_is_word guest.0) (both (hex_is_word at) (both (hex_is_word value) refl))
 words_are_words Done = refl

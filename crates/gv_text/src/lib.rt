@@ -12,6 +12,8 @@ mod printed;
 mod printing;
 mod report_line;
 mod script_line;
+#[cfg(test)]
+mod tests;
 mod values;
 
 pub use ending::Ending;

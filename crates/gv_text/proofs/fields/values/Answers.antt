@@ -1,4 +1,4 @@
-use Rattle.std.proofs.Common.{◌≡◌, ◌∙◌, sym, subst, arith, List, ℕ, Option, IfSome, ◌<◌, Some, map, append-nil, ap, length, ◌+◌}
+use Rattle.std.proofs.Common.{◌∙◌, sym, arith, List, ℕ, Some, map, append-nil, ap, length, ◌+◌}
 use Rattle.std.proofs.lemmas.List.{at_drop_all, length-map, length_push}
 use Rattle.std.specs.Borrow.{Bor}
 use Rattle.gv_text.proofs.ValueSteps.{no_slice, lent_at, lent_rest, lent_step, none_left, one_more, with_front, small_result}

@@ -1,8 +1,7 @@
-use Rattle.std.proofs.Common.{◌≡◌, ◌<◌, ◌≤◌, ◌+◌, length, sym, ap, ◌∙◌, arith}
+use Rattle.std.proofs.Common.{◌+◌, sym, ◌∙◌, arith}
 use Rattle.std.proofs.lemmas.List.{take_rest}
-use Rattle.std.specs.List.{position_or_len, before_first, after_first}
 use Rattle.gv_text.proofs.LineParts.{lines_of-first, lines_of-last_yes, lines_of-last_no}
-use Rattle.gv_text.specs.Script.{is_line_feed, counts_last, lines_of}
+use Rattle.gv_text.specs.Script.{counts_last}
 use Rattle.gv_text.proofs.lines.next_line.Goals as goal
 
 pub returns-then-end-rest-clause-none : goal.returns-then-end-rest-clause-none

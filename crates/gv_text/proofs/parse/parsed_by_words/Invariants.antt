@@ -1,4 +1,4 @@
-use Rattle.std.proofs.Common.{◌≡◌, ◌≤◌, length, map}
+use Rattle.std.proofs.Common.{◌≡◌}
 use Rattle.gv_text.proofs.parse.parsed_by_words.Given as goal
 
 abbrev pub invariant-loop-word : goal.invariant-loop-word
