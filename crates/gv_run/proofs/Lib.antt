@@ -1,5 +1,8 @@
 pub mod AddedGuest
 pub mod Agreed
+pub mod Kept
+pub mod Left
+pub mod Limit
 pub mod Memories
 pub mod OneGuest
 pub mod Text

@@ -8,7 +8,7 @@ use Rattle.gv_gpu.specs.Device.{Device}
 use Rattle.gv_gpu.specs.Part.{Part}
 use Rattle.gv_guest.specs.Placed.{Placed, Stands, memory_in, nowhere}
 use Rattle.gv_run.specs.Device.{PrivateDevice}
-use Rattle.gv_run.specs.Machine.{Machine}
+use Rattle.gv_run.specs.Machine.{Machine, device_at}
 use Rattle.gv_text.specs.declared.known.Known.{Known}
 
 -- each guest's memory stands, and further guests have no frames
@@ -45,3 +45,8 @@ pub record Agrees (d : Device) (known : Known) (guests : List Placed) : Type 0 w
   pub live : d.live ≡ known.frames
   pub few : known.frames ≤ 16384
   pub eight : known.guests ≤ 8
+
+-- The device has just the machine's memories: for each guest a page for each frame, with the frame's
+-- words, and no other page that is labelled as a frame of the guest.
+abbrev pub Keeps : Device → Machine → Type 0
+Keeps d m = (g : ℕ) → g < length m → (pages : List ℕ) × Stands d (record { guest = g; pages = pages }) × (memory_in d (record { guest = g; pages = pages }) ≡ (device_at m g).memory)

@@ -3,4 +3,4 @@
 
 mod machine;
 mod run;
-pub use machine::event;
+mod script;

@@ -1,9 +1,9 @@
 -- The digits of a number, the last one first.
-use Rattle.std.proofs.Common.{◌≡◌, ◌≢◌, ℕ, zero, suc, ◌+◌, ◌-◌, ◌*◌, ◌/◌, ◌%◌, ◌^◌, ◌<◌, ◌≤◌, List, [], ◌∷◌, Bool, true, false, length, drop, take, set, refl, ap, sym, ◌∙◌, arith, subst, add-one, cond, eqb}
-use Rattle.std.proofs.lemmas.Bool.{cond_both, eqb-true, eqb-false, ne_eqb, eq-eqb}
+use Rattle.std.proofs.Common.{◌≡◌, ◌≢◌, ℕ, zero, suc, ◌+◌, ◌-◌, ◌/◌, ◌%◌, ◌^◌, ◌<◌, ◌≤◌, List, [], ◌∷◌, false, length, drop, take, set, ap, sym, ◌∙◌, arith, subst, add-one, cond, eqb}
+use Rattle.std.proofs.lemmas.Bool.{cond_both, eqb-false, ne_eqb, eq-eqb}
 use Rattle.std.proofs.lemmas.List.{drop-set, drop_all, length-set, take_rest}
 use Rattle.std.proofs.lemmas.Fmt.{hex_one_digit}
-use Rattle.std.proofs.Math.Nat.{pow-suc, div-lt_iff_lt-mul}
+use Rattle.std.proofs.Math.Nat.{pow-suc}
 use Rattle.std.specs.Fmt.{digits, digits_onto, digit_glyph}
 use Rattle.gv_text.specs.Report.{hex}
 

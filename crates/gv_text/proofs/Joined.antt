@@ -1,6 +1,6 @@
 -- Words that a separator joins.
-use Rattle.std.proofs.Common.{◌≡◌, ℕ, ◌+◌, ◌<◌, List, [], ◌∷◌, ◌++◌, length, map, take, get_or, refl, ap, sym, ◌∙◌}
-use Rattle.std.proofs.lemmas.List.{append_assoc, map_more}
+use Rattle.std.proofs.Common.{◌≡◌, ℕ, List, [], ◌∷◌, ◌++◌, refl, ap, sym, ◌∙◌}
+use Rattle.std.proofs.lemmas.List.{append_assoc}
 use Rattle.std.specs.List.{join_with_byte}
 
 pub join_with_byte-push : (c : ℕ) (w : List ℕ) (ws : List (List ℕ)) (last : List ℕ) → join_with_byte c (w ∷ ws ++ last ∷ []) ≡ join_with_byte c (w ∷ ws) ++ c ∷ last

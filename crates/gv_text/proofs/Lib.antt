@@ -4,3 +4,5 @@ pub mod ValueSteps
 pub mod TooManyWords
 pub mod Hex
 pub mod Joined
+pub mod WordBytes
+pub mod ReportLines

@@ -1,9 +1,9 @@
 -- The lines of a report that are one guest's.
-use Rattle.std.specs.Prelude.{ℕ, List, [], ◌∷◌, ◌++◌, Bool, false, ◌==◌, filter}
-use Rattle.std.specs.List.{before_first, flat_map}
+use Rattle.std.specs.Prelude.{◌≡◌, ℕ, ◌<◌, List, [], ◌∷◌, ◌++◌, Bool, false, ◌==◌, filter, map}
+use Rattle.std.specs.List.{before_first, flat_map, AllByRecursion}
 use Rattle.std.specs.Str.{bytes_eq}
 use Rattle.gv_text.specs.Grammar.{is_space}
-use Rattle.gv_text.specs.Report.{hex}
+use Rattle.gv_text.specs.Report.{hex, line_text, text_of, IsPrintable}
 use Rattle.gv_text.specs.Script.{is_last_line, lines_of}
 use Rattle.gv_text.specs.declared.report_line.ReportLine.{ReportLine}
 use Rattle.gv_text.specs.declared.report_line.ReportLine.TheVariants.{Read, Irq, Failsafe, Turn, Move, Reset, Memory}
@@ -26,3 +26,11 @@ speaks_of g (Move guest frame moved) = guest.0 == g
 speaks_of g (Reset guest) = guest.0 == g
 speaks_of g (Memory guest at value) = guest.0 == g
 speaks_of g line = false
+
+-- A text of report lines has these lines and no others.
+abbrev pub LinesAreTheTexts : Type 0
+LinesAreTheTexts = (lines : List ReportLine) → lines_of is_last_line (text_of lines) ≡ map line_text lines
+
+-- The lines of a report that begin with a guest's number are those that speak of the guest.
+abbrev pub LinesNameTheirGuest : Type 0
+LinesNameTheirGuest = (g : ℕ) (lines : List ReportLine) → g < 8 → AllByRecursion IsPrintable lines → lines_of_guest g (text_of lines) ≡ text_of (filter (speaks_of g) lines)

@@ -1,5 +1,5 @@
 -- The lines of a report. Numbers are hexadecimal, without leading zeros.
-use Rattle.std.specs.Prelude.{ℕ, ◌<◌, List, [], ◌∷◌, ◌++◌, codes, false, if◌then◌else◌, map}
+use Rattle.std.specs.Prelude.{ℕ, ◌<◌, List, [], ◌∷◌, ◌++◌, codes, Bool, true, false, map}
 use Rattle.std.specs.List.{join_with_byte, flat_map}
 use Rattle.std.specs.Fmt.{digits}
 use Rattle.gv_types.specs.declared.event.Width.{Width}
@@ -30,13 +30,17 @@ reason_word reasons.Context = codes "context"
 reason_word reasons.Size = codes "size"
 reason_word reasons.Entry = codes "entry"
 
+abbrev pub moved_word : Bool → List ℕ
+moved_word true = codes "moved"
+moved_word false = codes "kept"
+
 abbrev pub report_words : ReportLine → List (List ℕ)
 report_words (Read guest place width at value) = hex guest.0 ∷ read_word place width ∷ hex at ∷ hex value ∷ []
 report_words (Irq guest value) = hex guest.0 ∷ codes "irq" ∷ hex value ∷ []
 report_words (Failsafe guest reason) = hex guest.0 ∷ codes "failsafe" ∷ reason_word reason ∷ []
 report_words (Turn guest engine counts) = hex guest.0 ∷ codes "turn" ∷ hex engine.0 ∷ map hex counts
 report_words (Rota engine guest) = codes "rota" ∷ hex engine.0 ∷ hex guest.0 ∷ []
-report_words (Move guest frame moved) = hex guest.0 ∷ codes "move" ∷ hex frame ∷ (if moved then codes "moved" else codes "kept") ∷ []
+report_words (Move guest frame moved) = hex guest.0 ∷ codes "move" ∷ hex frame ∷ moved_word moved ∷ []
 report_words (Reset guest) = hex guest.0 ∷ codes "reset" ∷ []
 report_words (Memory guest at value) = hex guest.0 ∷ codes "mem" ∷ hex at ∷ hex value ∷ []
 report_words Done = codes "done" ∷ []
@@ -46,9 +50,13 @@ report_words (Lines count) = codes "lines" ∷ hex count ∷ []
 report_words (Bytes count) = codes "bytes" ∷ hex count ∷ []
 report_words (Fold value) = codes "fold" ∷ hex value ∷ []
 
--- the words, separated by one space, and a line feed
+-- the words, separated by one space
+abbrev pub line_text : ReportLine → List ℕ
+line_text line = join_with_byte 32 (report_words line)
+
+-- the same with a line feed
 unfoldable pub report_text : ReportLine → List ℕ
-report_text line = join_with_byte 32 (report_words line) ++ 10 ∷ []
+report_text line = line_text line ++ 10 ∷ []
 
 unfoldable pub text_of : List ReportLine → List ℕ
 text_of lines = flat_map report_text lines

@@ -1,5 +1,5 @@
 -- A script: from its bytes to the lines that are accepted, and how it ends.
-use Rattle.std.specs.Prelude.{ℕ, ◌+◌, List, [], ◌∷◌, Option, Some, None, Bool, true, false, not, nat_lt, nat_le, ◌==◌, ◌&&◌, if◌then◌else◌, length, take}
+use Rattle.std.specs.Prelude.{◌≡◌, refl, ℕ, ◌+◌, List, [], ◌∷◌, Option, Some, None, Bool, true, false, not, nat_lt, nat_le, ◌==◌, ◌&&◌, if◌then◌else◌, length, take}
 use Rattle.std.specs.List.{slice_split}
 use Rattle.gv_text.specs.Number.{◌>>=◌, check}
 use Rattle.gv_text.specs.Grammar.{line_of}
@@ -100,9 +100,13 @@ counts_last false = is_too_long
 abbrev pub script_in : Bool → List ℕ → Script
 script_in whole text = script_from whole nothing_known 1 (lines_of (counts_last whole) text)
 
--- a script has at most 64 MiB
-abbrev pub script_limit : ℕ
+-- A script has at most 64 MiB. It is no abbrev: `take` of so large a numeral would be computed.
+unfoldable pub script_limit : ℕ
 script_limit = 67108864
+
+pub script_limit-is : script_limit ≡ 67108864
+unfolding script_limit
+script_limit-is = refl
 
 unfoldable pub script_of : List ℕ → Script
 script_of source = if nat_le (length source) script_limit then script_in true source else script_in false (take script_limit source)

@@ -4,6 +4,7 @@
 
 mod ending;
 mod fields;
+mod guest_lines;
 mod known;
 mod lines;
 mod number;
@@ -12,9 +13,12 @@ mod printed;
 mod printing;
 mod report_line;
 mod script_line;
+#[cfg(test)]
+mod tests;
 mod values;
 
 pub use ending::Ending;
+pub use guest_lines::lines_name_their_guest;
 pub use known::Known;
 pub use lines::next_line;
 pub use parse::line;

@@ -1,6 +1,6 @@
 ghost use Rattle.std.specs.Prelude.{◌≡◌, ℕ, ◌+◌, ◌<◌, ◌≤◌, [], ◌∷◌, length, codes, map};
 ghost use Rattle.std.specs.List.{join_with_byte};
-ghost use Rattle.gv_text.specs.Report.{hex, read_word, reason_word, report_words, report_text, IsPrintable};
+ghost use Rattle.gv_text.specs.Report.{hex, read_word, reason_word, moved_word, report_words, report_text, IsPrintable};
 
 use crate::{Printed, ReportLine};
 use gv_types::{EngineId, GuestId, Place, Reason, Width};
@@ -31,46 +31,24 @@ fn words(line: &ReportLine) -> Printed
             at,
             value,
         } => at_address(guest, access_word(place, width), at, value),
-        ReportLine::Irq { guest, value } => {
-            let mut text = of_guest(guest, b"irq");
-            text.number_u32(value);
-            text
-        }
-        ReportLine::Failsafe { guest, reason } => {
-            let mut text = of_guest(guest, b"failsafe");
-            text.word(cause_word(reason));
-            text
-        }
+        ReportLine::Irq { guest, value } => interrupt(guest, value),
+        ReportLine::Failsafe { guest, reason } => failsafe(guest, reason),
         ReportLine::Turn {
             guest,
             engine,
             counts,
         } => turns(guest, engine, &counts),
-        ReportLine::Rota { engine, guest } => {
-            let mut text = Printed::of_word(b"rota");
-            text.digit(engine.0);
-            text.digit(guest.0);
-            text
-        }
+        ReportLine::Rota { engine, guest } => owner(engine, guest),
         ReportLine::Move {
             guest,
             frame,
             moved,
-        } => {
-            let mut text = of_guest(guest, b"move");
-            text.number_u32(frame);
-            text.word(if moved { b"moved" } else { b"kept" });
-            text
-        }
+        } => page_move(guest, frame, moved),
         ReportLine::Reset { guest } => of_guest(guest, b"reset"),
         ReportLine::Memory { guest, at, value } => at_address(guest, b"mem", at, value),
         ReportLine::Done => Printed::of_word(b"done"),
         ReportLine::Refused(number) => of_number(b"refused", number),
-        ReportLine::TooLong => {
-            let mut text = Printed::of_word(b"too");
-            text.word(b"long");
-            text
-        }
+        ReportLine::TooLong => too_long(),
         ReportLine::Lines(count) => of_number(b"lines", count),
         ReportLine::Bytes(count) => of_number(b"bytes", count),
         ReportLine::Fold(value) => of_number(b"fold", value),
@@ -137,6 +115,58 @@ fn at_address(guest: GuestId, word: &[u8], at: u64, value: u64) -> Printed
     let mut text = of_guest(guest, word);
     text.number(at);
     text.number(value);
+    text
+}
+
+fn interrupt(guest: GuestId, value: u32) -> Printed
+    requires { guest.0 < 8 }
+    ensures text { result ≡ join_with_byte 32 (hex guest.0 ∷ codes "irq" ∷ hex value ∷ []) }
+    ensures short { length result < 64 }
+{
+    let mut text = of_guest(guest, b"irq");
+    text.number_u32(value);
+    text
+}
+
+fn failsafe(guest: GuestId, reason: Reason) -> Printed
+    requires { guest.0 < 8 }
+    ensures text { result ≡ join_with_byte 32 (hex guest.0 ∷ codes "failsafe" ∷ reason_word reason ∷ []) }
+    ensures short { length result < 64 }
+{
+    let mut text = of_guest(guest, b"failsafe");
+    text.word(cause_word(reason));
+    text
+}
+
+fn owner(engine: EngineId, guest: GuestId) -> Printed
+    requires guest { guest.0 < 8 }
+    requires engine { engine.0 < 4 }
+    ensures text { result ≡ join_with_byte 32 (codes "rota" ∷ hex engine.0 ∷ hex guest.0 ∷ []) }
+    ensures short { length result < 64 }
+{
+    let mut text = Printed::of_word(b"rota");
+    text.digit(engine.0);
+    text.digit(guest.0);
+    text
+}
+
+fn page_move(guest: GuestId, frame: u32, moved: bool) -> Printed
+    requires { guest.0 < 8 }
+    ensures text { result ≡ join_with_byte 32 (hex guest.0 ∷ codes "move" ∷ hex frame ∷ moved_word moved ∷ []) }
+    ensures short { length result < 64 }
+{
+    let mut text = of_guest(guest, b"move");
+    text.number_u32(frame);
+    text.word(if moved { b"moved" } else { b"kept" });
+    text
+}
+
+fn too_long() -> Printed
+    ensures text { result ≡ join_with_byte 32 (codes "too" ∷ codes "long" ∷ []) }
+    ensures short { length result < 64 }
+{
+    let mut text = Printed::of_word(b"too");
+    text.word(b"long");
     text
 }
 

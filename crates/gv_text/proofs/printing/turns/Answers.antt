@@ -1,4 +1,4 @@
-use Rattle.std.proofs.Common.{◌≡◌, ◌+◌, ◌∷◌, ◌++◌, ap, ◌∙◌, sym, arith, codes, map, take, get_or}
+use Rattle.std.proofs.Common.{◌∷◌, ◌++◌, ap, ◌∙◌, sym, arith, codes, map, take, get_or}
 use Rattle.std.proofs.lemmas.List.{map_more}
 use Rattle.std.specs.List.{join_with_byte}
 use Rattle.gv_text.specs.Report.{hex}

@@ -1,4 +1,4 @@
-use Rattle.std.proofs.Common.{◌≡◌, ℕ, ◌+◌, ◌-◌, ◌/◌, ◌∷◌, ◌++◌, length, set, refl, arith, ap, ◌∙◌}
+use Rattle.std.proofs.Common.{◌≡◌, ◌+◌, ◌-◌, ◌/◌, ◌∷◌, ◌++◌, length, set, refl, arith, ap, ◌∙◌}
 use Rattle.std.proofs.lemmas.List.{length-set}
 use Rattle.gv_text.proofs.Hex.{all_digits, all_digits-start, all_digits-more, last_digits, fewer_by_one, some_digit}
 use Rattle.gv_text.proofs.printed.Printed.digits.Goals as goal
