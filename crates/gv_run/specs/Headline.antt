@@ -1,0 +1,51 @@
+-- What the program promises of a run.
+use Rattle.std.specs.Prelude.{◌≡◌, ℕ, ◌<◌, List, [], ◌∷◌, Bool, true, false, Option, length, take, codes, slice_index}
+use Rattle.std.specs.Str.{bytes_eq}
+use Rattle.std.specs.Io.KnownBytes.{Appends}
+use Rattle.gv_text.specs.Guest.{lines_of_guest}
+use Rattle.gv_text.specs.Script.{script_of}
+use Rattle.gv_text.specs.declared.ending.Ending.{Ending}
+use Rattle.gv_text.specs.declared.ending.Ending.TheVariants as endings
+use Rattle.gv_run.specs.Report.{report_of}
+use Rattle.gv_run.specs.Solo.{solo, frames_of, inputs_of, is_done}
+use Rattle.gv_run.specs.declared.call.Status.{Status}
+use Rattle.gv_run.specs.declared.call.Status.TheVariants.{Done, BadWords, ReadFault, BadScript, TooLong, DeviceFault}
+
+-- the words that are a command
+abbrev pub is_run : List (List ℕ) → Bool
+is_run (word ∷ []) = bytes_eq word (codes "run")
+is_run words = false
+
+abbrev pub status_of : Ending → Status
+status_of endings.Done = Done
+status_of (endings.BadScript n) = BadScript n
+status_of endings.TooLong = TooLong
+
+-- whether a status says how the script ended
+abbrev pub tells_ending : Status → Bool
+tells_ending Done = true
+tells_ending (BadScript n) = true
+tells_ending TooLong = true
+tells_ending status = false
+
+-- a front of the script's report was written
+abbrev pub WritesPart : Option (List ℕ) → Option (List ℕ) → List ℕ → Type 0
+WritesPart old new source = (n : ℕ) × Appends old new (take n (report_of source))
+
+-- Each guest's lines of a text are the report of its own device alone: a function of its number, its
+-- frames, its events, and whether the script ends with `end`.
+abbrev pub IsPrivate : List ℕ → List ℕ → Type 0
+IsPrivate source text =
+    (g : ℕ) → g < length (frames_of (script_of source).lines) →
+    lines_of_guest g text ≡ solo g (slice_index (frames_of (script_of source).lines) g) (inputs_of g (script_of source).lines) (is_done (script_of source).ending)
+
+-- what was written is such a text
+abbrev pub WritesPrivate : Option (List ℕ) → Option (List ℕ) → List ℕ → Type 0
+WritesPrivate old new source = (text : List ℕ) × Appends old new text × IsPrivate source text
+
+-- the statuses that a script which was read can have
+abbrev pub IsOfPlay : Status → Type 0
+IsOfPlay BadWords = ⊥
+IsOfPlay ReadFault = ⊥
+IsOfPlay DeviceFault = ⊥
+IsOfPlay status = Unit {0}
