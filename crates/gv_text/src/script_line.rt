@@ -12,14 +12,19 @@ pub struct Guest {
 /// What a line of a script says.
 #[derive(Debug, PartialEq, Eq, Drop)]
 pub enum Line {
+    /// An empty line, or one that begins with `#`.
     Blank,
+    /// `guest F L H`
     Guest(Guest),
+    /// `r4 G A` or `r8 G A`: the address is a multiple of the access's bytes.
     Read {
         guest: u8,
         place: Place,
         width: Width,
         at: u64,
     },
+    /// `w4 G A V ..` or `w8 G A V ..`: the first value is written at the address, each further one
+    /// behind the one before.
     Write {
         guest: u8,
         place: Place,
@@ -47,6 +52,7 @@ pub enum Line {
     Reset {
         guest: u8,
     },
+    /// `end`
     End,
 }
 
