@@ -1,10 +1,17 @@
 pub mod AddedGuest
 pub mod Agreed
+pub mod Isolation
+pub mod Joined
 pub mod Kept
 pub mod Left
 pub mod Limit
 pub mod Memories
+pub mod Named
 pub mod OneGuest
+pub mod OwnLines
+pub mod Printable
+pub mod Source
+pub mod Statuses
 pub mod Text
 pub mod Values
 pub mod Words

@@ -1,7 +1,6 @@
 -- The words of all frames, one after another.
 use Rattle.std.proofs.Common.{◌≡◌, ◌≢◌, Bool, true, false, ◌^◌, ℕ, zero, suc, ◌+◌, ◌*◌, ◌-◌, ◌/◌, ◌%◌, ◌<◌, ◌≤◌, List, [], ◌∷◌, ◌++◌, length, get_or, drop, cond, eqb, refl, ap, sym, ◌∙◌, arith, ⊎_elim, length-append}
 use Rattle.std.proofs.lemmas.Bool.{cases_lt, eqb-true, lt-ltb}
-
 use Rattle.std.proofs.lemmas.Grind.{common_steps}
 use Rattle.std.specs.List.{concat}
 use Rattle.std.proofs.lemmas.List.{at_drop_more, get_or-map, length-map, drop_all}

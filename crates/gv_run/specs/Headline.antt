@@ -49,3 +49,16 @@ IsOfPlay BadWords = ⊥
 IsOfPlay ReadFault = ⊥
 IsOfPlay DeviceFault = ⊥
 IsOfPlay status = Unit {0}
+
+-- Two scripts that a guest can't tell apart: they have the guest, with the same frames and events, and
+-- either both end with `end` or neither does.
+pub record LooksAlike (g : ℕ) (a b : List ℕ) : Type 0 where
+  pub first : g < length (frames_of (script_of a).lines)
+  pub second : g < length (frames_of (script_of b).lines)
+  pub frames : slice_index (frames_of (script_of a).lines) g ≡ slice_index (frames_of (script_of b).lines) g
+  pub inputs : inputs_of g (script_of a).lines ≡ inputs_of g (script_of b).lines
+  pub done : is_done (script_of a).ending ≡ is_done (script_of b).ending
+
+-- whatever other guests do, the guest is told the same
+abbrev pub EqualGuestsAreToldTheSame : Type 0
+EqualGuestsAreToldTheSame = (g : ℕ) (a b : List ℕ) → LooksAlike g a b → lines_of_guest g (report_of a) ≡ lines_of_guest g (report_of b)

@@ -75,11 +75,7 @@ fn status_of(ending: Ending) -> Status
 }
 
 // What a script's source has, up to one byte past the limit, which tells that it has too many.
-fn read_script<S: Source>(
-    alloc: Global,
-    source: &mut S,
-    most: usize,
-) -> Result<Vec<u8>, ReadFailed>
+fn read_script<S: Source>(alloc: Global, source: &mut S, most: usize) -> Result<Vec<u8>, ReadFailed>
     requires { most ≡ script_limit + 1 }
     ensures ok { IfOk result (λ text. IfSome (S.left source.old) (λ bytes. text.items ≡ take (script_limit + 1) bytes)) }
     ensures failed { IsErrOf result ReadFailed.Source → Rose (S.faults source.old) (S.faults source.new) }
@@ -140,6 +136,9 @@ pub fn mediate<S: Source, K: Sink, G: Gpu>(
     ensures read { result ≡ Status.ReadFault → Rose (S.faults source.old) (S.faults source.new) }
     ensures write { result ≡ Status.WriteFault → Rose (K.faults sink.old) (K.faults sink.new) }
     ensures device { result ≢ Status.DeviceFault }
+    ensures complete { is_run (map (λ word. word.now) words.now) ≡ true
+        → ¬ Rose (S.faults source.old) (S.faults source.new) → ¬ Rose (K.faults sink.old) (K.faults sink.new)
+        → result ≢ Status.OutOfMemory → tells_ending result ≡ true }
 {
     if !is_run(words) {
         return Status::BadWords;

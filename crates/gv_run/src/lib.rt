@@ -2,8 +2,12 @@
 #![tactic(auto)]
 
 mod call;
+mod laws;
 mod machine;
 mod run;
 mod script;
+#[cfg(test)]
+mod tests;
 
 pub use call::{Status, mediate};
+pub use laws::equal_guests_are_told_the_same;

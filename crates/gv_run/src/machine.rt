@@ -22,14 +22,7 @@ fn read<G: Gpu>(gpu: &G, guests: &[Memory], guest: GuestId, width: Width, at: u6
 }
 
 // An aligned write to a guest's memory.
-fn write<G: Gpu>(
-    gpu: &mut G,
-    guests: &[Memory],
-    guest: GuestId,
-    width: Width,
-    at: u64,
-    value: u64,
-)
+fn write<G: Gpu>(gpu: &mut G, guests: &[Memory], guest: GuestId, width: Width, at: u64, value: u64)
     requires ties { Ties (G.state gpu.old) guests.now }
     requires there { guest.0 < length guests.now }
     requires aligned { at % bytes_of width ≡ 0 }

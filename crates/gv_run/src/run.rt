@@ -36,7 +36,10 @@ fn told_line(event: &Event, reply: &Reply) -> Option<ReportLine>
 {
     match event {
         Event::Read {
-            place, width, at, ..
+            place,
+            width,
+            at,
+            ..
         } => match reply.answer {
             Answer::Value(value) => Some(ReportLine::Read {
                 guest: reply.guest,
@@ -68,12 +71,7 @@ fn tell_reply(report: &mut Vec<u8>, event: &Event, reply: &Reply) -> Result<(), 
 
 // Tells a word of memory, unless it is 0.
 #[tactic(auto, using(crate::proofs::Text::said_none))]
-fn tell_word(
-    report: &mut Vec<u8>,
-    guest: GuestId,
-    at: u64,
-    value: u64,
-) -> Result<(), OutOfMemory>
+fn tell_word(report: &mut Vec<u8>, guest: GuestId, at: u64, value: u64) -> Result<(), OutOfMemory>
     requires { guest.0 < 8 }
     ensures { OnOk result (report.new.items ≡ report.old.items ++ text_of (words_said guest.0 at (value ∷ []))) }
 {
@@ -193,7 +191,12 @@ impl Run {
     }
 
     // A `guest` line.
-    fn guest<G: Gpu>(&mut self, alloc: Global, gpu: &mut G, guest: &Guest) -> Result<(), OutOfMemory>
+    fn guest<G: Gpu>(
+        &mut self,
+        alloc: Global,
+        gpu: &mut G,
+        guest: &Guest,
+    ) -> Result<(), OutOfMemory>
         requires agrees { Agrees (G.state gpu.old) self.old.known self.old.guests.items }
         requires room { has_room self.old.known guest.now ≡ true }
         ensures agrees { OnOk result (Agrees (G.state gpu.new) (known_after self.old.known (GuestLine guest.now)) self.new.guests.items) }

@@ -101,11 +101,7 @@ fn judged(text: &[u8], limit: usize) -> (&[u8], bool)
 
 /// Runs a script over an empty device. The text is all that the source has, or more of it than a
 /// script may have.
-pub fn run_script<G: Gpu>(
-    alloc: Global,
-    gpu: &mut G,
-    text: &[u8],
-) -> Result<Finished, OutOfMemory>
+pub fn run_script<G: Gpu>(alloc: Global, gpu: &mut G, text: &[u8]) -> Result<Finished, OutOfMemory>
     requires { IsEmpty (G.state gpu.old) }
     ensures report { IfOk result (λ f. f.report.items ≡ report_of text.now) }
     ensures ending { IfOk result (λ f. f.ending ≡ ending_of text.now) }

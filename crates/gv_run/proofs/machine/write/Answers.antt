@@ -23,7 +23,7 @@ returns-clause-machine g c =
     let access = Write c.args.guest places.Memory c.args.width c.args.at c.args.value in
     let was = device-there d c.args.guests.now c.args.guest.0 guest.result c.requires.there (sym guest.is) in
     let written : device_in e guest.result ≡ device_after (device_at (machine_in d c.args.guests.now) c.args.guest.0) access =
-        ap (λ m. record { memory = m }) c.write.ensures.memory ∙ sym (ap (λ p. device_after p access) was) in
+    ap (λ m. record { memory = m }) c.write.ensures.memory ∙ sym (ap (λ p. device_after p access) was) in
     machine-written d e c.args.guests.now c.args.guest.0 guest.result c.requires.there (sym guest.is) c.requires.ties c.write.ensures.outside
     (device_after (device_at (machine_in d c.args.guests.now) c.args.guest.0) access) written
 

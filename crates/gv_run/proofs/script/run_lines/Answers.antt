@@ -32,7 +32,7 @@ returns-then-is_end-clause-report g c =
     let n = c.loop-bytes.number in
     let rest = c.loop-bytes.rest.now in
     let is = left_ended c.args.whole run.known n rest c.in-Some.bytes.now c.in-Some.after.now c.in-Some.ensures.lines c.in-Some-accepted.line
-        (sym c.accepted.ensures.value ∙ c.in-Some-accepted.is) (sym c.is_end.ensures ∙ c.if-is_end.true) in
+    (sym c.accepted.ensures.value ∙ c.in-Some-accepted.is) (sym c.is_end.ensures ∙ c.if-is_end.true) in
     over-report _ (machine_in (g.G.Gpu.state c.loop-bytes.gpu) run.guests.items) c.args.run.now.report.items run.report.items _ (left_of c.args.whole run.known n rest) c.loop-bytes.invariant.left Done is
 
 pub loop-bytes-preserved : goal.loop-bytes-preserved
@@ -49,7 +49,7 @@ loop-bytes-preserved g c =
     let all = script_in c.args.whole c.args.text.now in
     let after = c.in-Some.after.now in
     let is = left_line c.args.whole run.known n rest c.in-Some.bytes.now after c.in-Some.ensures.lines line
-        (sym c.accepted.ensures.value ∙ c.in-Some-accepted.is) (sym c.is_end.ensures ∙ c.if-is_end.false) in
+    (sym c.accepted.ensures.value ∙ c.in-Some-accepted.is) (sym c.is_end.ensures ∙ c.if-is_end.false) in
     let on = goes_on m0 m c.args.run.now.report.items run.report.items all (left_of c.args.whole run.known n rest) kept.left line _ next c.line.new.self.report.items is done.machine done.report in
     record {
       agrees = done.agrees;

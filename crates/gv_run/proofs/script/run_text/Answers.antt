@@ -19,12 +19,12 @@ returns-clause-report g c =
     let none : machine_in d c.new-run.result.guests.items ≡ [] = ap (machine_in d) c.new-run.ensures.guests in
     let machine : machine_in e c.run_lines.new.run.guests.items ≡ run_lines [] all.lines = ran.machine ∙ ap (λ (m : Machine). run_lines m all.lines) none in
     let first : c.run_lines.new.run.report.items ≡ [] ++ text_of (lines_said [] all.lines) =
-        ran.report ∙ ap (λ (m : Machine). c.new-run.result.report.items ++ text_of (lines_said m all.lines)) none
-        ∙ ap (λ (before : List ℕ). before ++ text_of (lines_said [] all.lines)) c.new-run.ensures.report in
+    ran.report ∙ ap (λ (m : Machine). c.new-run.result.report.items ++ text_of (lines_said m all.lines)) none
+    ∙ ap (λ (before : List ℕ). before ++ text_of (lines_said [] all.lines)) c.new-run.ensures.report in
     let last : c.finish.new.self.report.items ≡ c.run_lines.new.run.report.items ++ text_of (ending_said all.ending (run_lines [] all.lines)) =
-        c.in_ok-finish.ensures.report
-        ∙ ap (λ (ending : Ending). c.run_lines.new.run.report.items ++ text_of (ending_said ending (machine_in e c.run_lines.new.run.guests.items))) ran.ending
-        ∙ ap (λ (m : Machine). c.run_lines.new.run.report.items ++ text_of (ending_said all.ending m)) machine in
+    c.in_ok-finish.ensures.report
+    ∙ ap (λ (ending : Ending). c.run_lines.new.run.report.items ++ text_of (ending_said ending (machine_in e c.run_lines.new.run.guests.items))) ran.ending
+    ∙ ap (λ (m : Machine). c.run_lines.new.run.report.items ++ text_of (ending_said all.ending m)) machine in
     said_twice [] c.run_lines.new.run.report.items c.finish.new.self.report.items (lines_said [] all.lines) (ending_said all.ending (run_lines [] all.lines)) first last
 
 pub returns-clause-pages : goal.returns-clause-pages

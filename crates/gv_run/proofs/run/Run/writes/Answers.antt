@@ -24,7 +24,7 @@ loop-index-preserved g c =
     let write : Event = write_at (bytes_of c.args.width) in
     let moved : after ≡ machine_after m write = c.in_ok-event.ensures.machine ∙ ap (λ b. machine_after m (write_at b)) c.bytes.ensures in
     let said : c.event.new.self.report.items ≡ c.loop-index.self.report.items ++ text_of (events_said m (write ∷ [])) =
-        c.in_ok-event.ensures.report ∙ ap (λ b. c.loop-index.self.report.items ++ text_of (events_said m (write_at b ∷ []))) c.bytes.ensures in
+    c.in_ok-event.ensures.report ∙ ap (λ b. c.loop-index.self.report.items ++ text_of (events_said m (write_at b ∷ []))) c.bytes.ensures in
     record {
       agrees = c.in_ok-event.ensures.agrees;
       kept = c.in_ok-event.ensures.kept ∙ ap (λ (run : Run). record run { report = c.event.new.self.report }) kept.kept;

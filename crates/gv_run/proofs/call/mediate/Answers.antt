@@ -1,0 +1,65 @@
+use Rattle.std.proofs.Common.{◌≡◌, ◌+◌, ℕ, List, [], take, IfSome, ap, sym, ◌∙◌, subst}
+use Rattle.std.specs.Io.KnownBytes.{Appends}
+use Rattle.gv_text.specs.Script.{script_limit, script_limit-is}
+use Rattle.gv_gpu.specs.Device.{Device}
+use Rattle.gv_run.specs.Headline.{status_of, WritesPart}
+use Rattle.gv_run.specs.Report.{report_of}
+use Rattle.gv_run.specs.Tied.{Keeps}
+use Rattle.gv_run.proofs.Isolation.{private-report, commands_in-none}
+use Rattle.gv_run.proofs.Statuses.{told_of_play}
+use Rattle.gv_run.proofs.Limit.{same_report, same_ending, same_machine}
+use Rattle.gv_run.proofs.Source.{of_source}
+use Rattle.gv_run.proofs.call.mediate.Goals as goal
+
+pub read_script-requires : goal.read_script-requires
+read_script-requires g c = ap (λ n. n + 1) (sym script_limit-is)
+
+pub returns-in-Ok-clause-ending : goal.returns-in-Ok-clause-ending
+returns-in-Ok-clause-ending g c = λ told.
+    let left = g.S.Source.left c.args.source.now in
+    let text = c.deref.result.now in
+    let read = subst (λ (t : List ℕ). IfSome left (λ bytes. t ≡ take (script_limit + 1) bytes)) (sym c.deref.ensures.value) c.in-Ok.ensures.ok in
+    of_source left text read (λ bytes is. c.play.ensures.ending told ∙ ap status_of (same_ending text bytes is))
+
+pub returns-in-Ok-clause-report : goal.returns-in-Ok-clause-report
+returns-in-Ok-clause-report g c = λ told.
+    let left = g.S.Source.left c.args.source.now in
+    let text = c.deref.result.now in
+    let read = subst (λ (t : List ℕ). IfSome left (λ bytes. t ≡ take (script_limit + 1) bytes)) (sym c.deref.ensures.value) c.in-Ok.ensures.ok in
+    of_source left text read (λ bytes is. subst (Appends (g.K.Sink.held c.args.sink.now) (g.K.Sink.held c.play.new.sink)) (same_report text bytes is) (c.play.ensures.report told))
+
+pub returns-in-Ok-clause-part : goal.returns-in-Ok-clause-part
+returns-in-Ok-clause-part g c =
+    let left = g.S.Source.left c.args.source.now in
+    let text = c.deref.result.now in
+    let read = subst (λ (t : List ℕ). IfSome left (λ bytes. t ≡ take (script_limit + 1) bytes)) (sym c.deref.ensures.value) c.in-Ok.ensures.ok in
+    of_source left text read (λ bytes is.
+    let part = c.play.ensures.part in
+    (part.0, subst (λ report. Appends (g.K.Sink.held c.args.sink.now) (g.K.Sink.held c.play.new.sink) (take part.0 report)) (same_report text bytes is) part.1))
+
+pub returns-in-Ok-clause-private : goal.returns-in-Ok-clause-private
+returns-in-Ok-clause-private g c = λ told.
+    let left = g.S.Source.left c.args.source.now in
+    let text = c.deref.result.now in
+    let read = subst (λ (t : List ℕ). IfSome left (λ bytes. t ≡ take (script_limit + 1) bytes)) (sym c.deref.ensures.value) c.in-Ok.ensures.ok in
+    of_source left text read (λ bytes is.
+    (report_of bytes, subst (Appends (g.K.Sink.held c.args.sink.now) (g.K.Sink.held c.play.new.sink)) (same_report text bytes is) (c.play.ensures.report told), private-report bytes))
+
+pub returns-in-Ok-clause-journal : goal.returns-in-Ok-clause-journal
+returns-in-Ok-clause-journal g c = λ told.
+    let left = g.S.Source.left c.args.source.now in
+    let text = c.deref.result.now in
+    let read = subst (λ (t : List ℕ). IfSome left (λ bytes. t ≡ take (script_limit + 1) bytes)) (sym c.deref.ensures.value) c.in-Ok.ensures.ok in
+    of_source left text read (λ bytes is.
+    ap (λ (d : Device). d.journal) c.play.ensures.outside ∙ ap (λ (d : Device). d.journal) c.requires.empty ∙ sym (commands_in-none bytes))
+
+pub returns-in-Ok-clause-complete : goal.returns-in-Ok-clause-complete
+returns-in-Ok-clause-complete g c = λ command source sink found.
+    told_of_play c.play.result c.play.ensures.only (λ fault. sink (c.play.ensures.write fault)) found
+
+pub returns-in-Ok-clause-pages : goal.returns-in-Ok-clause-pages
+returns-in-Ok-clause-pages g c = λ done.
+    let left = g.S.Source.left c.args.source.now in
+    let text = c.deref.result.now in
+    let read = subst (λ (t : List ℕ). IfSome left (λ bytes. t ≡ take (script_limit + 1) bytes)) (sym c.deref.ensures.value) c.in-Ok.ensures.ok in
+    of_source left text read (λ bytes is. subst (Keeps (g.G.Gpu.state c.play.new.gpu)) (same_machine text bytes is) (c.play.ensures.pages done))

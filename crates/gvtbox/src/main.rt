@@ -1,0 +1,38 @@
+//! `gvtbox run` reads a script from standard input, runs it over a device in memory, and writes the
+//! script's report to standard output. Its exit status says how that went.
+#![tactic(auto)]
+
+use gv_gpu::SoftGpu;
+use gv_outside::{StdSink, StdSource};
+use gv_run::{Status, mediate};
+use std::env;
+use std::io;
+use std::io::ErrorKind;
+use std::process::ExitCode;
+
+fn run(rt: &HostRuntime) -> io::Result<Status> {
+    let arguments = env::args(rt)?.collect::<Vec<String>>(rt.alloc())?;
+    let mut words = Vec::new(rt.alloc());
+    for argument in arguments.iter().skip(1) {
+        words.push(argument.as_str())?;
+    }
+    let mut source = StdSource::new(rt.stdin());
+    let mut sink = StdSink::new(rt.stdout());
+    let mut gpu = SoftGpu::new(rt.alloc());
+    Ok(mediate(
+        rt.alloc(),
+        &words,
+        &mut source,
+        &mut sink,
+        &mut gpu,
+    ))
+}
+
+fn main(rt: HostRuntime) -> ExitCode {
+    let status = match run(&rt) {
+        Ok(status) => status,
+        Err(error) if error.kind() == ErrorKind::OutOfMemory => Status::OutOfMemory,
+        Err(_) => Status::BadWords,
+    };
+    ExitCode::from(status.code())
+}
