@@ -1,5 +1,5 @@
 ghost use Rattle.std.specs.Prelude.{◌≡◌, ◌<◌, ◌≤◌, length};
-ghost use Rattle.gv_sched.specs.Rota.{first_owners, owner_of, next_owner, switched};
+ghost use Rattle.gv_sched.specs.Rota.{first_owners, owner_of, next_owner, IsNextOwner, switched};
 
 use gv_types::{EngineId, GuestId};
 use std::marker::Model;
@@ -56,6 +56,7 @@ impl Rota {
         requires engine { engine.0 < 4 }
         requires each_guest { length has_work.now ≡ self.old.guests }
         ensures owner { result.0 ≡ next_owner has_work.now (owner_of self.old engine.0) }
+        ensures first { IsNextOwner has_work.now (owner_of self.old engine.0) result.0 }
         ensures there { result.0 < self.new.guests }
         ensures after { self.new ≡ switched self.old engine.0 has_work.now }
     {
@@ -69,6 +70,7 @@ fn next_owner(has_work: &[bool], owner: u8) -> u8
     requires there { owner < length has_work.now }
     requires few { length has_work.now ≤ 8 }
     ensures next { result ≡ next_owner has_work.now owner }
+    ensures first { IsNextOwner has_work.now owner result }
     ensures there { result < length has_work.now }
 {
     let before = owner as usize;
