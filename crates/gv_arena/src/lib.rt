@@ -1,0 +1,4 @@
+//! Pages of 512 words, by number, behind raw pointers.
+#![tactic(auto)]
+
+mod places;
