@@ -1,2 +1,6 @@
+pub mod Filled
+pub mod FreeNumbers
+pub mod Joined
 pub mod Memory
+pub mod Padding
 pub mod Sharing

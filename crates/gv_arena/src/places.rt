@@ -1,12 +1,11 @@
 //! The one place with raw pointers: a row of places in one allocation, each of which is empty or
 //! holds a value. A write asks for an empty place, and a read for a full one, so that no value is
 //! overwritten, read twice, or read before it is written.
-ghost use Rattle.std.specs.Prelude.{◌≡◌, ℕ, ◌<◌, List, Option, Some, None, length, replicate, get_or, slice_set, IfOk, ⊤};
+ghost use Rattle.std.specs.Prelude.{◌≡◌, ℕ, ◌<◌, List, Option, Some, None, length, replicate, get_or, slice_set, IfOk, IsSome, ⊤};
 ghost use Rattle.std.specs.Borrow.{sem};
 ghost use Rattle.std.specs.Vec.Ownership.{FitsInBlock};
 ghost use base.Fml.{ftrue};
 ghost use denote.RawPtr.{Ptr};
-ghost use Rattle.gv_arena.specs.Places.{IsFilled};
 ghost use Rattle.gv_arena.specs.Ownership.{cells_own, cells_lent, deed_owns};
 
 use std::alloc::{AllocError, Allocator};
@@ -110,7 +109,7 @@ impl<T> Places<T> {
 
     /// Takes the value out of a place, which is empty from then on.
     pub(crate) fn read(&mut self, base: Start<T>, index: usize) -> T
-        requires { (base.ptr ≡ self.old.at) × IsFilled self.old.slots index }
+        requires { (base.ptr ≡ self.old.at) × IsSome (get_or self.old.slots index None) }
         ensures value { get_or self.old.slots index None ≡ Some result }
         ensures slots { (self.new.at ≡ self.old.at) × (self.new.slots ≡ slice_set self.old.slots index None) }
     {
@@ -119,7 +118,7 @@ impl<T> Places<T> {
 
     /// The value of a place.
     pub(crate) fn get(&self, base: Start<T>, index: usize) -> &T
-        requires { (base.ptr ≡ self.now.at) × IsFilled self.now.slots index }
+        requires { (base.ptr ≡ self.now.at) × IsSome (get_or self.now.slots index None) }
         ensures { get_or self.now.slots index None ≡ Some result.now }
     {
         unsafe { &*base.ptr.add(index) }
@@ -127,7 +126,7 @@ impl<T> Places<T> {
 
     /// The value of a place, to be written.
     pub(crate) fn get_mut(&mut self, base: Start<T>, index: usize) -> &mut T
-        requires { (base.ptr ≡ self.old.at) × IsFilled self.old.slots index }
+        requires { (base.ptr ≡ self.old.at) × IsSome (get_or self.old.slots index None) }
         ensures* writes_back { sem 𝓛 (lends_slot T.row self.entry index result) }
         ensures value { get_or self.old.slots index None ≡ Some result.now }
     {

@@ -42,10 +42,10 @@ use types.Kit.{flt_l}
 use types.Run.{bin, size_lit}
 use types.ByLocal.{take_at, give_at}
 use denote.Builtin.{usize}
-use Rattle.std.specs.Prelude.{Some, None}
+use Rattle.std.specs.Prelude.{Some, None, IsSome}
 use Rattle.core.proofs.mem.Param.{El, R, args, el_x}
 use Rattle.core.proofs.ptr.Rows.{times_below, one_below}
-use Rattle.gv_arena.specs.Places.{IsFilled}
+use Rattle.gv_arena.proofs.Filled.{IsFilled, filled}
 use Rattle.gv_arena.specs.Ownership.{slot_lent, cells_lent}
 use Rattle.gv_arena.proofs.Memory.{Cr, Bs, sz, Place, word_had, filled_within, slot_seen}
 use Rattle.gv_arena.specs.contracts.places.Places.get.Key.{name as #self}
@@ -63,7 +63,7 @@ module _ (E : El) where
   stayed = (stay_dropped (RefOf (0 ∷ []) tt (plain (λ _. Cr E)) (λ _. tt)) yes, (stay_dropped (plain (λ _. Bs E)) no, (stay_dropped (plain (λ _. usize)) no, tt)))
 
   abbrev Asks : (Cr E).Denot → (Bs E).Denot → (usize).Denot → Type 0
-  Asks d base index = (base.ptr ≡ d.at) × IsFilled d.slots index
+  Asks d base index = (base.ptr ≡ d.at) × IsSome (get_or d.slots index None)
 
   abbrev Gives0 : (Cr E).Denot → (Bs E).Denot → (usize).Denot → Bor (el_x E) → Type 0
   Gives0 d base index r = get_or d.slots index None ≡ Some r.now
@@ -93,7 +93,8 @@ module _ (E : El) {M : Type 1} {𝓤 : Ura M} (𝓛 : Logic 𝓤) (C : Calls �
   Had = ‵ (hidden_shr (Cr E) κ d rb ro) ∷ ‵ (flft κ q) ∷ []
 
   walk : Asks E d base index → index < 2 ^ 64 → ent 𝓤 (⋆ 𝓛 Had) (WpFn 𝓤 H C Λ (function E) (vptr rb ro ∷ word base.ptr ∷ vint w64 index ∷ []) Post)
-  walk asked fits_index =
+  walk held fits_index =
+      let asked : (base.ptr ≡ d.at) × IsFilled d.slots index = (held.0, filled _ held.1) in
       let x = asked.1.0 in let within = filled_within d.slots index x asked.1.1 in
       qed 𝓛 Had ∵ enter ! C Λ (function E) (vptr rb ro ∷ word base.ptr ∷ vint w64 index ∷ []) _ $ alloc_all ! (λ l. pass_all ! refl ((tt, tt), (word-Good [] base.ptr, ((tt, record { fits = fits_index }), tt))) $
       let En : Env 𝓤 H = env (function E).locals l in

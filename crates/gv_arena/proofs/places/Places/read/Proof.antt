@@ -42,11 +42,11 @@ use types.Kit.{flt_l, flt_i}
 use types.Run.{bin, size_lit}
 use types.ByLocal.{take_at, give_at}
 use denote.Builtin.{usize}
-use Rattle.std.specs.Prelude.{Some, None}
+use Rattle.std.specs.Prelude.{Some, None, IsSome}
 use Rattle.core.proofs.mem.Param.{El, R, args, elτ}
 use Rattle.core.proofs.ptr.Rows.{times_below, one_below}
 use Rattle.std_alloc.proofs.RawLayout.{as_raw}
-use Rattle.gv_arena.specs.Places.{IsFilled}
+use Rattle.gv_arena.proofs.Filled.{IsFilled, filled}
 use Rattle.gv_arena.specs.Ownership.{slot, slots, cells_own}
 use Rattle.gv_arena.proofs.Memory.{Cr, Bs, sz, Place, word_had, says_both, value_out, filled_within, Besides, slot_out, slot_in}
 use Rattle.gv_arena.specs.contracts.places.Places.read.Key.{name as #self}
@@ -64,7 +64,7 @@ module _ (E : El) where
   stayed = (stay_ref (0 ∷ []) tt (plain (λ _. Cr E)), (stay_dropped (plain (λ _. Bs E)) no, (stay_dropped (plain (λ _. usize)) no, tt)))
 
   abbrev Asks : (Cr E).Denot → (Bs E).Denot → (usize).Denot → Type 0
-  Asks d base index = (base.ptr ≡ d.at) × IsFilled d.slots index
+  Asks d base index = (base.ptr ≡ d.at) × IsSome (get_or d.slots index None)
 
   abbrev Gives0 : (Cr E).Denot → (Bs E).Denot → (usize).Denot → (R E).Denot → (Cr E).Denot → Type 0
   Gives0 d base index r new = get_or d.slots index None ≡ Some r
@@ -97,7 +97,8 @@ module _ (E : El) {M : Type 1} {𝓤 : Ura M} (𝓛 : Logic 𝓤) (C : Calls �
   Had = ‵ (fobs γ ((Cr E).coded.code d)) ∷ ‵ (fbor κ (Borrowed (mem (Cr E)) rb ro γ)) ∷ ‵ (flft κ q) ∷ []
 
   walk : us0 ≡ vptr rb ro ∷ [] → Asks E d base index → index < 2 ^ 64 → ent 𝓤 (⋆ 𝓛 Had) (WpFn 𝓤 H C Λ (function E) (vptr rb ro ∷ word base.ptr ∷ vint w64 index ∷ []) Post)
-  walk passed asked fits_index =
+  walk passed held fits_index =
+      let asked : (base.ptr ≡ d.at) × IsFilled d.slots index = (held.0, filled _ held.1) in
       let x = asked.1.0 in let within = filled_within d.slots index x asked.1.1 in
       let new : (Cr E).Denot = record { mark = d.mark; at = d.at; slots = set d.slots index None } in
       qed 𝓛 Had ∵ enter ! C Λ (function E) (vptr rb ro ∷ word base.ptr ∷ vint w64 index ∷ []) _ $ alloc_all ! (λ l. pass_all ! refl ((tt, tt), (word-Good [] base.ptr, ((tt, record { fits = fits_index }), tt))) $
