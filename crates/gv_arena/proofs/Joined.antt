@@ -1,7 +1,8 @@
 -- The places of chunks, one after another.
 use Rattle.std.proofs.Common.{◌≡◌, ℕ, zero, suc, ◌+◌, ◌-◌, ◌*◌, ◌/◌, ◌%◌, ◌<◌, ◌≤◌, List, [], ◌∷◌, ◌++◌, length, set, get_or, refl, sym, ap, ◌∙◌, subst, inl, inr, arith, length-append, length-set, get_or-set_same, get_or-set_other, None, append-nil}
 use Rattle.std.proofs.lemmas.Bool.{cases_lt, cases_eq}
-use Rattle.std.proofs.lemmas.List.{get_or_append_left, get_or-append_right, set-append_left, set-append_right, get_or_push, length_push}
+use Rattle.std.proofs.lemmas.List.{get_or_append_left, get_or-append_right, set-append_left, set-append_right, get_or_push, length_push, get_or_read}
+use Rattle.std.specs.Prelude.{IsSome}
 use Rattle.std.proofs.lemmas.List.Concat.{flat_map-append}
 use Rattle.gv_arena.specs.Store.{Place, joined, AreChunks}
 
@@ -41,3 +42,32 @@ chunks_push cs c h long j lt = elim (cases_lt j (length cs)) [
 
 pub joined_push : (cs : List (List Place)) (c : List Place) → joined (cs ++ c ∷ []) ≡ joined cs ++ c
 joined_push cs c = flat_map-append (λ p. p) cs (c ∷ []) ∙ ap (λ ps. joined cs ++ ps) (append-nil c)
+
+pub some_within : (all : List Place) (page : ℕ) → IsSome (get_or all page None) → page < length all
+some_within [] page some = cc
+some_within (p ∷ ps) zero some = omega arith
+some_within (p ∷ ps) (suc page) some = omega (arith, some_within ps page some)
+
+-- a page by its chunk c and its place in it
+module _ (cs : List (List Place)) (all : List Place) (h : AreChunks cs) (v : joined cs ≡ all) (page : ℕ) (inside : page < length all) where
+  within_places : page < length cs * 64
+  within_places = omega (arith, length-joined cs h, ap length v)
+
+  pub chunk_within : page / 64 < length cs
+  chunk_within = let places = within_places in omega arith
+
+  module _ (c : List Place) (is : c ≡ get_or cs (page / 64) c) where
+    chunk_is : c ≡ get_or cs (page / 64) []
+    chunk_is = get_or_read cs (page / 64) c chunk_within is []
+
+    pub chunk_long : length c ≡ 64
+    chunk_long = ap length chunk_is ∙ h (page / 64) chunk_within
+
+    pub place_is : get_or c (page % 64) None ≡ get_or all page None
+    place_is = ap (λ (d : List Place). get_or d (page % 64) None) chunk_is ∙ sym (get_or-joined cs page h) ∙ ap (λ (ps : List Place). get_or ps page None) v
+
+    pub chunk_set : (p : Place) → joined (set cs (page / 64) (set c (page % 64) p)) ≡ set all page p
+    chunk_set p = ap (λ (d : List Place). joined (set cs (page / 64) (set d (page % 64) p))) chunk_is ∙ set-joined cs page p h within_places ∙ ap (λ (ps : List Place). set ps page p) v
+
+    pub chunks_kept : (d : List Place) (p : Place) → d ≡ set c (page % 64) p → AreChunks (set cs (page / 64) d)
+    chunks_kept d p e = chunks-set cs (page / 64) d h (ap length e ∙ length-set c (page % 64) p ∙ chunk_long)

@@ -1,6 +1,7 @@
 pub mod Filled
 pub mod FreeNumbers
 pub mod Joined
+pub mod Longer
 pub mod Memory
 pub mod Padding
 pub mod Sharing

@@ -18,20 +18,21 @@ module _ {X : Type 0} (x : X) where
 
   pub get_or-padded : (xs : List X) (i : ℕ) → get_or (padded x xs) i x ≡ get_or xs i x
   unfolding padded
-  get_or-padded xs i = elim (cases_lt i (length xs)) [
-      inl lt ↦ get_or_append_left xs _ x i lt
-    | inr le ↦ get_or-append_right xs _ (length xs) i x refl le ∙ same-replicate _ _ ∙ sym (get_or_past xs i x le) ]
+  get_or-padded xs i = let more = page_limit - length xs in elim (cases_lt i (length xs)) [
+      inl lt ↦ get_or_append_left xs (replicate more x) x i lt
+    | inr le ↦ get_or-append_right xs (replicate more x) (length xs) i x refl le ∙ same-replicate more (i - length xs) ∙ sym (get_or_past xs i x le) ]
 
   pub set-padded : (xs : List X) (i : ℕ) (y : X) → i < length xs → set (padded x xs) i y ≡ padded x (set xs i y)
   unfolding padded
-  set-padded xs i y lt = set-append_left xs _ i y lt ∙ ap (λ n. set xs i y ++ replicate (page_limit - n) x) (sym (length-set xs i y))
+  set-padded xs i y lt = set-append_left xs (replicate (page_limit - length xs) x) i y lt ∙ ap (λ (n : ℕ). set xs i y ++ replicate (page_limit - n) x) (sym (length-set xs i y))
 
   pub padded_more : (xs : List X) (n : ℕ) → length xs + n ≤ page_limit → padded x (xs ++ replicate n x) ≡ padded x xs
   unfolding padded
   padded_more xs n le =
-      let long : length (xs ++ replicate n x) ≡ length xs + n = length-append xs (replicate n x) ∙ ap (λ k. length xs + k) (length-replicate n x) in
+      let long : length (xs ++ replicate n x) ≡ length xs + n = length-append xs (replicate n x) ∙ ap (λ (k : ℕ). length xs + k) (length-replicate n x) in
       let rest : n + (page_limit - length (xs ++ replicate n x)) ≡ page_limit - length xs = omega (arith, long) in
-      append_assoc xs (replicate n x) _ ∙ ap (λ ys. xs ++ ys) (replicate-append-replicate n _ x ∙ ap (λ k. replicate k x) rest)
+      let pads = page_limit - length (xs ++ replicate n x) in
+      append_assoc xs (replicate n x) (replicate pads x) ∙ ap (λ (ys : List X). xs ++ ys) (replicate-append-replicate n pads x ∙ ap (λ (k : ℕ). replicate k x) rest)
 
   pub length-padded : (xs : List X) → length xs ≤ page_limit → length (padded x xs) ≡ page_limit
   unfolding padded
@@ -44,4 +45,4 @@ module _ {X : Type 0} (x : X) where
 
     pub sum_by-padded : (xs : List X) → sum_by f (padded x xs) ≡ sum_by f xs
     unfolding padded
-    sum_by-padded xs = sum_by-append f xs _ ∙ omega (arith, sum_by-replicate (page_limit - length xs))
+    sum_by-padded xs = sum_by-append f xs (replicate (page_limit - length xs) x) ∙ omega (arith, sum_by-replicate (page_limit - length xs))
