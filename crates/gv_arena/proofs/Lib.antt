@@ -1,7 +1,11 @@
+pub mod Added
+pub mod Fields
 pub mod Filled
 pub mod FreeNumbers
 pub mod Joined
 pub mod Longer
+pub mod Marked
 pub mod Memory
+pub mod OnAny
 pub mod Padding
 pub mod Sharing

@@ -28,3 +28,6 @@ module _ (xs ys zs : List Place) (n : ℕ) (e : zs ≡ ys ++ no_pages n) where
 pub padded_longer : (xs ys : List Place) → IsLonger xs ys → length xs ≤ length ys → length ys ≤ 131072 → padded None ys ≡ padded None xs
 unfolding no_pages
 padded_longer xs ys l le within = ap (padded None) l ∙ padded_more None xs (length ys - length xs) (omega (arith, limit_is))
+
+pub longer_le : (xs ys : List Place) → IsLonger xs ys → length xs ≤ length ys
+longer_le xs ys l = let count = ap length l ∙ length-append xs (no_pages (length ys - length xs)) in omega (arith, count)

@@ -1,4 +1,4 @@
-ghost use Rattle.std.specs.Prelude.{◌≡◌, ◌+◌, ◌<◌, ◌≤◌, Some, None, slice_index, slice_set, Ok, IfOk, IsOk, OnOk, OnErr, IsSome};
+ghost use Rattle.std.specs.Prelude.{◌≡◌, ◌+◌, ◌<◌, ◌≤◌, Some, None, length, slice_index, slice_set, IfOk, IsOk, OnOk, OnErr, IsSome};
 ghost use Rattle.gv_types.specs.Memory.{zero_words};
 ghost use Rattle.gv_arena.specs.Contents.{nothing, words_at, words_of, is_live, live, with_page};
 ghost use Rattle.gv_arena.specs.Rows.{row_copied};
@@ -73,7 +73,7 @@ impl Arena {
         ensures pages { self.new.pages ≡ self.old.pages }
         ensures spare { OnOk result (pages ≤ self.new.spare) }
         ensures more { self.old.spare ≤ self.new.spare }
-        ensures succeeds { pages ≤ self.old.spare → (result ≡ Ok ()) × (self.new ≡ self.old) }
+        ensures succeeds { pages ≤ self.old.spare → IsOk result × (self.new ≡ self.old) }
         ensures err { OnErr result (self.new ≡ self.old) }
     {
         let total = self.numbers.live() + pages as usize;
@@ -160,6 +160,7 @@ impl Arena {
         requires { (live self.old + self.old.spare ≤ total) × (total ≤ 131072) }
         ensures pages { self.new.pages ≡ self.old.pages }
         ensures spare { OnOk result (live self.new + self.new.spare ≡ total) }
+        ensures more { self.old.spare ≤ self.new.spare }
         ensures err { OnErr result (self.new ≡ self.old) }
     {
         self.store.grow(total)?;
