@@ -1,4 +1,5 @@
 pub mod Added
+pub mod Bytes
 pub mod Fields
 pub mod Filled
 pub mod FreeNumbers
@@ -7,5 +8,7 @@ pub mod Longer
 pub mod Marked
 pub mod Memory
 pub mod OnAny
+pub mod Overwriting
 pub mod Padding
+pub mod PageBytes
 pub mod Sharing

@@ -1,6 +1,6 @@
-//! Rows of bytes, copied from one page to another.
-ghost use Rattle.std.specs.Prelude.{◌≡◌, ◌+◌, ◌*◌, ◌^◌, ◌<◌, ◌≤◌, ◌++◌, List, length, take, drop};
-ghost use Rattle.std.specs.Int.{w64, to_le_bytes, from_le_bytes};
+//! Rows of bytes, copied from one page to another, word by word.
+ghost use Rattle.std.specs.Prelude.{◌≡◌, ℕ, ◌+◌, ◌*◌, ◌/◌, ◌%◌, ◌^◌, ◌<◌, ◌≤◌, take, slice_index};
+ghost use Rattle.std.specs.Int.{w64, byte_at, to_le_bytes, from_le_bytes};
 ghost use Rattle.gv_arena.specs.Rows.{bytes_of, overwritten, row_copied};
 
 use crate::chunk::{PAGE_WORDS, Page};
@@ -8,19 +8,30 @@ use crate::chunk::{PAGE_WORDS, Page};
 /// How many bytes a word has.
 const WORD_BYTES: usize = 8;
 
+/// How many values a word can have.
+const WORD_VALUES: u128 = 1 << 64;
+
+/// The eight bytes from a byte of the first word on, which go on in the second.
+fn window(low: u64, high: u64, byte: usize) -> u64
+    requires { byte < 8 }
+    ensures { result ≡ (high * 2 ^ 64 + low) / 2 ^ (8 * byte) % 2 ^ 64 }
+{
+    let both = u128::from(high) * WORD_VALUES + u128::from(low);
+    ((both >> (8 * byte)) % WORD_VALUES) as u64
+}
+
 /// The eight bytes from a byte of the page on, as a word. Those past the page's end are 0.
-fn word_at(words: &Page, at: usize) -> u64 {
+fn word_at(words: &Page, at: usize) -> u64
+    requires { at < 4096 }
+    ensures { (i : ℕ) → i < 8 → byte_at i result ≡ slice_index (bytes_of words.now) (at + i) }
+{
     let index = at / WORD_BYTES;
-    let shift = 8 * (at % WORD_BYTES) as u32;
-    if shift == 0 {
-        return words[index];
-    }
     let next = if index + 1 < PAGE_WORDS {
         words[index + 1]
     } else {
         0
     };
-    words[index] >> shift | next << (64 - shift)
+    window(words[index], next, at % WORD_BYTES)
 }
 
 /// The word with some of its bytes replaced by the first bytes of a value.
