@@ -1,12 +1,12 @@
 -- A list with a piece written over some of its items, one by one.
-use Rattle.std.proofs.Common.{◌≡◌, ℕ, ◌+◌, ◌-◌, ◌*◌, ◌/◌, ◌%◌, ◌^◌, ◌<◌, ◌≤◌, List, [], ◌∷◌, ◌++◌, length, take, drop, get_or, set, refl, sym, ap, ◌∙◌, subst, inl, inr, arith, length-append, length-drop, get_or-take, get_or-drop}
+use Rattle.std.proofs.Common.{◌≡◌, ℕ, ◌+◌, ◌-◌, ◌*◌, ◌/◌, ◌%◌, ◌^◌, ◌<◌, ◌≤◌, List, [], ◌∷◌, ◌++◌, length, take, drop, get_or, set, refl, sym, ap, ◌∙◌, subst, inl, inr, arith, length-append, length-drop, get_or-take, get_or-drop, get_or-set_same, get_or-set_other}
 use Rattle.std.proofs.lemmas.Bool.{cases_lt, cases_eq}
 use Rattle.std.proofs.lemmas.List.{get_or_append_left, get_or-append_right, get_or_past, length-take-le}
 use Rattle.std.proofs.lemmas.Nat.{le_bytes_8}
 use Rattle.std.specs.Int.{w64, byte_at, to_le_bytes, from_le_bytes}
-use Rattle.gv_arena.specs.Rows.{bytes_of, overwritten}
+use Rattle.gv_arena.specs.Rows.{bytes_of, overwritten, AreWords, IsCopied}
 use Rattle.gv_arena.proofs.Bytes.{byte_in_list, byte_below}
-use Rattle.gv_arena.proofs.PageBytes.{get_or-bytes_of, same_bytes, new_bytes}
+use Rattle.gv_arena.proofs.PageBytes.{get_or-bytes_of, same_bytes, new_bytes, words_copied}
 
 module _ (xs : List ℕ) (at : ℕ) (piece : List ℕ) (fits : at + length piece ≤ length xs) where
   front : length (take at xs) ≡ at
@@ -102,3 +102,33 @@ module _ (ws : List ℕ) (to n value w : ℕ) (within : to / 8 < length ws) (fit
   piece_above x le = elim (cases_eq (x / 8) (to / 8)) [
       inl same ↦ same_word x same (byte_above_same (get_or ws (to / 8) 0) (to % 8) value n fits w is (x % 8) (omega arith) (omega arith))
     | inr apart ↦ same_bytes ws (to / 8) w within x apart ]
+
+-- whole words of a page, written over as many words of another
+module _ (source old : List ℕ) (from to n : ℕ) (inside : from + n ≤ length source) (room : to + n ≤ length old) where
+  piece_long : length (take n (drop from source)) ≡ n
+  piece_long = length-take-le n (drop from source) (omega (arith, length-drop from source))
+
+  pub span_copied : IsCopied (bytes_of source) (bytes_of old) (bytes_of (overwritten old to (take n (drop from source)))) (from * 8) (to * 8) (n * 8)
+  span_copied =
+      let piece = take n (drop from source) in
+      let fits : to + length piece ≤ length old = omega (arith, piece_long, room) in
+      words_copied source old (overwritten old to piece) from to n inside room (length-overwritten old to piece fits)
+      (λ k lt. in_piece old to piece fits k (omega (arith, piece_long)) ∙ get_or-take n (drop from source) k 0 lt ∙ get_or-drop from source k 0)
+      (λ k out. elim out [ inl lt ↦ below_piece old to piece fits k lt | inr le ↦ above_piece old to piece fits k (omega (arith, piece_long)) ])
+
+  pub span_words : AreWords source → AreWords old → AreWords (overwritten old to (take n (drop from source)))
+  span_words first second i =
+      let piece = take n (drop from source) in
+      let fits : to + length piece ≤ length old = omega (arith, piece_long, room) in
+      elim (cases_lt i to) [
+        inl below ↦ subst (λ (b : ℕ). b < 2 ^ 64) (sym (below_piece old to piece fits i below)) (second i)
+      | inr le ↦ elim (cases_lt i (to + n)) [
+          inl within ↦ (let there : to + (i - to) ≡ i = omega arith in
+            subst (λ (b : ℕ). b < 2 ^ 64) (sym (get_or-take n (drop from source) (i - to) 0 (omega arith) ∙ get_or-drop from source (i - to) 0)
+              ∙ sym (in_piece old to piece fits (i - to) (omega (arith, piece_long))) ∙ ap (λ (k : ℕ). get_or (overwritten old to piece) k 0) there) (first (from + (i - to))))
+        | inr above ↦ subst (λ (b : ℕ). b < 2 ^ 64) (sym (above_piece old to piece fits i (omega (arith, piece_long)))) (second i) ] ]
+
+pub words_set : (ws : List ℕ) (j w : ℕ) → j < length ws → w < 2 ^ 64 → AreWords ws → AreWords (set ws j w)
+words_set ws j w within small words i = elim (cases_eq i j) [
+    inl same ↦ subst (λ (b : ℕ). b < 2 ^ 64) (sym (ap (λ (k : ℕ). get_or (set ws j w) k 0) same ∙ get_or-set_same ws j w 0 within)) small
+  | inr apart ↦ subst (λ (b : ℕ). b < 2 ^ 64) (sym (get_or-set_other ws j i w 0 apart)) (words i) ]

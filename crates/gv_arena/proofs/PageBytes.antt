@@ -1,10 +1,10 @@
 -- The bytes of a list of words, one by one.
-use Rattle.std.proofs.Common.{◌≡◌, ℕ, zero, suc, ◌+◌, ◌-◌, ◌*◌, ◌/◌, ◌%◌, ◌^◌, ◌<◌, ◌≤◌, ◌≢◌, List, [], ◌∷◌, ◌++◌, length, get_or, set, refl, sym, ap, ◌∙◌, inl, inr, arith, length-append, length-set, get_or-set_same, get_or-set_other}
+use Rattle.std.proofs.Common.{◌≡◌, ℕ, zero, suc, ◌+◌, ◌-◌, ◌*◌, ◌/◌, ◌%◌, ◌^◌, ◌<◌, ◌≤◌, ◌≢◌, ◌⊎◌, List, [], ◌∷◌, ◌++◌, length, get_or, set, refl, sym, ap, ◌∙◌, inl, inr, arith, length-append, length-set, get_or-set_same, get_or-set_other}
 use Rattle.std.proofs.lemmas.Bool.{cases_lt, cases_eq}
 use Rattle.std.proofs.lemmas.List.{get_or_append_left, get_or-append_right, get_or_past}
 use Rattle.std.proofs.lemmas.Nat.{from_le_bytes-to_le_bytes_8}
 use Rattle.std.specs.Int.{w64, byte_at, to_le_bytes}
-use Rattle.gv_arena.specs.Rows.{bytes_of, words_from}
+use Rattle.gv_arena.specs.Rows.{bytes_of, words_from, IsCopied}
 use Rattle.gv_arena.proofs.Bytes.{window, window_first, window_second, byte_of_zero, byte_in_list}
 
 pub length-bytes_of : (ws : List ℕ) → length (bytes_of ws) ≡ length ws * 8
@@ -59,3 +59,28 @@ module _ (ws : List ℕ) (j w : ℕ) (within : j < length ws) where
 
   pub new_bytes : (m : ℕ) → m < 8 → get_or (bytes_of (set ws j w)) (j * 8 + m) 0 ≡ byte_at m w
   new_bytes m small = get_or-bytes_of (set ws j w) j m small (omega (arith, length-set ws j w)) ∙ ap (byte_at m) (get_or-set_same ws j w 0 within)
+
+-- whole words are copied
+module _ (source old new : List ℕ) (from to n : ℕ) (inside : from + n ≤ length source) (room : to + n ≤ length old) (long : length new ≡ length old)
+    (copied : (k : ℕ) → k < n → get_or new (to + k) 0 ≡ get_or source (from + k) 0)
+    (others : (k : ℕ) → (k < to) ⊎ (to + n ≤ k) → get_or new k 0 ≡ get_or old k 0) where
+  other_byte : (i : ℕ) → (i / 8 < to) ⊎ (to + n ≤ i / 8) → get_or (bytes_of new) i 0 ≡ get_or (bytes_of old) i 0
+  other_byte i out =
+      let place : i / 8 * 8 + i % 8 ≡ i = omega arith in
+      let small : i % 8 < 8 = omega arith in
+      elim (cases_lt (i / 8) (length old)) [
+        inl within ↦ sym (ap (λ (k : ℕ). get_or (bytes_of new) k 0) place) ∙ get_or-bytes_of new (i / 8) (i % 8) small (omega (arith, long)) ∙ ap (byte_at (i % 8)) (others (i / 8) out)
+          ∙ sym (get_or-bytes_of old (i / 8) (i % 8) small within) ∙ ap (λ (k : ℕ). get_or (bytes_of old) k 0) place
+      | inr past ↦ get_or_past (bytes_of new) i 0 (omega (arith, length-bytes_of new, long)) ∙ sym (get_or_past (bytes_of old) i 0 (omega (arith, length-bytes_of old))) ]
+
+  pub words_copied : IsCopied (bytes_of source) (bytes_of old) (bytes_of new) (from * 8) (to * 8) (n * 8)
+  words_copied = record {
+    copied = λ i lt.
+      let there : (to + i / 8) * 8 + i % 8 ≡ to * 8 + i = omega arith in
+      let here : (from + i / 8) * 8 + i % 8 ≡ from * 8 + i = omega arith in
+      let small : i % 8 < 8 = omega arith in
+      sym (ap (λ (k : ℕ). get_or (bytes_of new) k 0) there) ∙ get_or-bytes_of new (to + i / 8) (i % 8) small (omega (arith, long))
+      ∙ ap (byte_at (i % 8)) (copied (i / 8) (omega arith))
+      ∙ sym (get_or-bytes_of source (from + i / 8) (i % 8) small (omega arith)) ∙ ap (λ (k : ℕ). get_or (bytes_of source) k 0) here;
+    before = λ i lt. other_byte i (inl (omega arith));
+    after = λ i le. other_byte i (inr (omega arith)) }

@@ -1,5 +1,5 @@
 -- A row of bytes, copied from one page into another or within one.
-use Rattle.std.specs.Prelude.{ℕ, ◌+◌, List, [], ◌∷◌, ◌++◌, length, take, drop}
+use Rattle.std.specs.Prelude.{◌≡◌, ℕ, ◌+◌, ◌^◌, ◌<◌, ◌≤◌, slice_index, List, [], ◌∷◌, ◌++◌, length, take, drop}
 use Rattle.std.specs.List.{flat_map}
 use Rattle.std.specs.Int.{w64, to_le_bytes, from_le_bytes}
 
@@ -20,3 +20,13 @@ overwritten xs at piece = take at xs ++ (piece ++ drop (at + length piece) xs)
 unfoldable pub row_copied : List ℕ → ℕ → List ℕ → ℕ → ℕ → List ℕ
 row_copied source from_byte target to_byte count =
     words_from (overwritten (bytes_of target) to_byte (take count (drop from_byte (bytes_of source))))
+
+-- words of 64 bits
+abbrev pub AreWords : List ℕ → Type 0
+AreWords words = (i : ℕ) → slice_index words i < 2 ^ 64
+
+-- Of two lists of bytes, new is old with this many bytes of the source in it, and else the same.
+pub record IsCopied (source old new : List ℕ) (from to count : ℕ) : Type 0 where
+  pub copied : (i : ℕ) → i < count → slice_index new (to + i) ≡ slice_index source (from + i)
+  pub before : (i : ℕ) → i < to → slice_index new i ≡ slice_index old i
+  pub after : (i : ℕ) → to + count ≤ i → slice_index new i ≡ slice_index old i

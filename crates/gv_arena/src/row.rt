@@ -1,7 +1,7 @@
 //! Rows of bytes, copied from one page to another, word by word.
 ghost use Rattle.std.specs.Prelude.{◌≡◌, ℕ, ◌+◌, ◌*◌, ◌/◌, ◌%◌, ◌^◌, ◌<◌, ◌≤◌, take, slice_index};
 ghost use Rattle.std.specs.Int.{w64, byte_at, to_le_bytes, from_le_bytes};
-ghost use Rattle.gv_arena.specs.Rows.{bytes_of, overwritten, row_copied};
+ghost use Rattle.gv_arena.specs.Rows.{bytes_of, overwritten, row_copied, AreWords, IsCopied};
 
 use crate::chunk::{PAGE_WORDS, Page};
 
@@ -47,6 +47,55 @@ fn with_bytes(word: u64, at: usize, value: u64, count: usize) -> u64
     u64::from_le_bytes(bytes)
 }
 
+/// Copies bytes into one word.
+fn copy_piece(source: &Page, from: usize, target: &mut Page, to: usize, count: usize)
+    requires from { from + count ≤ 4096 }
+    requires to { to + count ≤ 4096 }
+    requires piece { (0 < count) × (to % 8 + count ≤ 8) }
+    ensures copied { IsCopied (bytes_of source.now) (bytes_of target.old) (bytes_of target.new) from to count }
+    ensures words { AreWords target.new }
+{
+    let value = word_at(source, from);
+    let word = target[to / WORD_BYTES];
+    target[to / WORD_BYTES] = with_bytes(word, to % WORD_BYTES, value, count);
+}
+
+/// Copies whole words.
+fn copy_words(source: &Page, from: usize, target: &mut Page, to: usize, count: usize)
+    requires from { from + count ≤ 512 }
+    requires to { to + count ≤ 512 }
+    ensures copied { IsCopied (bytes_of source.now) (bytes_of target.old) (bytes_of target.new) (from * 8) (to * 8) (count * 8) }
+    ensures words { AreWords target.new }
+{
+    target[to..to + count].copy_from_slice(&source[from..from + count]);
+}
+
+/// Copies the first bytes of a row, in whole words where both sides begin with one, and answers
+/// how many.
+fn copy_first(
+    source: &Page,
+    from: usize,
+    target: &mut Page,
+    to: usize,
+    count: usize,
+) -> usize
+    requires from { from + count ≤ 4096 }
+    requires to { to + count ≤ 4096 }
+    requires some { 0 < count }
+    ensures many { (0 < result) × (result ≤ count) }
+    ensures copied { IsCopied (bytes_of source.now) (bytes_of target.old) (bytes_of target.new) from to result }
+    ensures words { AreWords target.new }
+{
+    let words = count / WORD_BYTES;
+    if from % WORD_BYTES == 0 && to % WORD_BYTES == 0 && 0 < words {
+        copy_words(source, from / WORD_BYTES, target, to / WORD_BYTES, words);
+        return words * WORD_BYTES;
+    }
+    let piece = (WORD_BYTES - to % WORD_BYTES).min(count);
+    copy_piece(source, from, target, to, piece);
+    piece
+}
+
 /// Copies a row of bytes.
 pub(crate) fn copy_bytes(
     source: &Page,
@@ -61,11 +110,12 @@ pub(crate) fn copy_bytes(
 {
     let mut done = 0;
     while done < count {
-        let to = to_byte + done;
-        let piece = (WORD_BYTES - to % WORD_BYTES).min(count - done);
-        let value = word_at(source, from_byte + done);
-        let word = target[to / WORD_BYTES];
-        target[to / WORD_BYTES] = with_bytes(word, to % WORD_BYTES, value, piece);
-        done += piece;
+        done += copy_first(
+            source,
+            from_byte + done,
+            target,
+            to_byte + done,
+            count - done,
+        );
     }
 }

@@ -1,38 +1,37 @@
--- One piece more of the row is copied, and at the end the page's bytes are the row's definition.
-use Rattle.std.proofs.Common.{◌≡◌, ℕ, ◌+◌, ◌-◌, ◌*◌, ◌/◌, ◌%◌, ◌^◌, ◌<◌, ◌≤◌, List, length, take, drop, get_or, set, sym, ap, ◌∙◌, subst, inl, inr, arith, length-set, length-drop, get_or-take, get_or-drop, get_or-set_same, get_or-set_other, ext_get_or}
-use Rattle.std.proofs.lemmas.Bool.{cases_lt, cases_eq}
+-- One part more of the row is copied, and at the end the page's bytes are those of the row's definition.
+use Rattle.std.proofs.Common.{◌≡◌, ℕ, ◌+◌, ◌-◌, ◌<◌, ◌≤◌, List, length, take, drop, get_or, sym, ap, ◌∙◌, refl, inl, inr, arith, length-drop, get_or-take, get_or-drop, ext_get_or}
+use Rattle.std.proofs.lemmas.Bool.{cases_lt}
 use Rattle.std.proofs.lemmas.List.{length-take-le}
-use Rattle.gv_arena.specs.Rows.{bytes_of, words_from, overwritten, row_copied}
+use Rattle.gv_arena.specs.Rows.{bytes_of, words_from, overwritten, row_copied, IsCopied}
 use Rattle.gv_arena.proofs.PageBytes.{length-bytes_of, words_from-bytes_of}
-use Rattle.gv_arena.proofs.Overwriting.{below_piece, in_piece, above_piece, length-overwritten, piece_inside, piece_below, piece_above}
+use Rattle.gv_arena.proofs.Overwriting.{below_piece, in_piece, above_piece, length-overwritten}
 use Rattle.gv_arena.proofs.row.copy_bytes.Goals as goal
 
+-- a row, and what comes after it
+copied_more : (source old mid new : List ℕ) (from to n more : ℕ) → IsCopied source old mid from to n → IsCopied source mid new (from + n) (to + n) more → IsCopied source old new from to (n + more)
+copied_more source old mid new from to n more first second = record {
+  copied = λ i lt. elim (cases_lt i n) [
+      inl early ↦ second.before (to + i) (omega arith) ∙ first.copied i early
+    | inr late ↦ (let there : to + n + (i - n) ≡ to + i = omega arith in
+        let here : from + n + (i - n) ≡ from + i = omega arith in
+        ap (λ (k : ℕ). get_or new k 0) (sym there) ∙ second.copied (i - n) (omega arith) ∙ ap (λ (k : ℕ). get_or source k 0) here) ];
+  before = λ i lt. second.before i (omega arith) ∙ first.before i lt;
+  after = λ i le. second.after i (omega arith) ∙ first.after i (omega arith) }
+
+pub loop-done-init : goal.loop-done-init
+loop-done-init c = record {
+  within = omega arith;
+  long = c.told-target;
+  words = c.fits-target;
+  copied = record { copied = λ i lt. absurd (omega arith); before = λ i lt. refl; after = λ i le. refl } }
+
 pub loop-done-preserved : goal.loop-done-preserved
-loop-done-preserved c =
-    let inv = c.loop-done.invariant in
-    let ws = c.loop-done.target in
-    let to = c.args.to_byte + c.loop-done.done in
-    let n = c.min-piece.result in
-    let value = c.word_at-value.result in
-    let w = c.with_bytes.result in
-    let within : to / 8 < length ws = omega (arith, inv.long, c.loop-done-test.true, c.requires.to) in
-    let fits : to % 8 + n ≤ 8 = omega (arith, c.min-piece.ensures) in
-    let more : n ≤ c.args.count - c.loop-done.done = omega (arith, c.min-piece.ensures) in
-    record {
-      within = omega (arith, more, c.loop-done-test.true);
-      long = length-set ws (to / 8) w ∙ inv.long;
-      words = λ i. elim (cases_eq i (to / 8)) [
-          inl same ↦ subst (λ (b : ℕ). b < 2 ^ 64) (sym (ap (λ (k : ℕ). get_or (set ws (to / 8) w) k 0) same ∙ get_or-set_same ws (to / 8) w 0 within)) c.with_bytes.type_inv
-        | inr apart ↦ subst (λ (b : ℕ). b < 2 ^ 64) (sym (get_or-set_other ws (to / 8) i w 0 apart)) (inv.words i) ];
-      copied = λ i lt. elim (cases_lt i c.loop-done.done) [
-          inl old ↦ piece_below ws to n value w within fits c.with_bytes.ensures (c.args.to_byte + i) (omega arith) ∙ inv.copied i old
-        | inr new ↦ (let m = i - c.loop-done.done in
-            let there : to + m ≡ c.args.to_byte + i = omega arith in
-            let here : c.args.from_byte + c.loop-done.done + m ≡ c.args.from_byte + i = omega arith in
-            ap (λ (k : ℕ). get_or (bytes_of (set ws (to / 8) w)) k 0) (sym there) ∙ piece_inside ws to n value w within fits c.with_bytes.ensures m (omega arith)
-            ∙ c.word_at-value.ensures m (omega (arith, fits)) ∙ ap (λ (k : ℕ). get_or (bytes_of c.args.source.now) k 0) here) ];
-      before = λ i lt. piece_below ws to n value w within fits c.with_bytes.ensures i (omega arith) ∙ inv.before i lt;
-      after = λ i le. piece_above ws to n value w within fits c.with_bytes.ensures i (omega arith) ∙ inv.after i (omega arith) }
+loop-done-preserved c = record {
+  within = omega (arith, c.copy_first-done.ensures.many.1, c.loop-done-test.true);
+  long = c.copy_first-done.array_long;
+  words = c.copy_first-done.ensures.words;
+  copied = copied_more (bytes_of c.args.source.now) (bytes_of c.args.target.now) (bytes_of c.loop-done.target) (bytes_of c.copy_first-done.new.target) c.args.from_byte c.args.to_byte c.loop-done.done c.copy_first-done.result
+    c.loop-done.invariant.copied c.copy_first-done.ensures.copied }
 
 pub returns : goal.returns
 unfolding row_copied
@@ -50,12 +49,12 @@ returns c =
     let bytes : bytes_of ws ≡ overwritten old c.args.to_byte piece = ext_get_or 0 (bytes_of ws) (overwritten old c.args.to_byte piece)
           (omega (arith, length-bytes_of ws, inv.long, length-overwritten old c.args.to_byte piece fits, old_long))
           (λ i inside. elim (cases_lt i c.args.to_byte) [
-              inl below ↦ inv.before i below ∙ sym (below_piece old c.args.to_byte piece fits i below)
+              inl below ↦ inv.copied.before i below ∙ sym (below_piece old c.args.to_byte piece fits i below)
             | inr le ↦ elim (cases_lt i (c.args.to_byte + c.args.count)) [
                 inl within ↦ (let m = i - c.args.to_byte in
                   let there : c.args.to_byte + m ≡ i = omega arith in
-                  sym (ap (λ (k : ℕ). get_or (bytes_of ws) k 0) there) ∙ inv.copied m (omega (arith, all))
+                  sym (ap (λ (k : ℕ). get_or (bytes_of ws) k 0) there) ∙ inv.copied.copied m (omega (arith, all))
                   ∙ sym (get_or-take c.args.count (drop c.args.from_byte source) m 0 (omega arith) ∙ get_or-drop c.args.from_byte source m 0)
                   ∙ sym (in_piece old c.args.to_byte piece fits m (omega (arith, piece_long))) ∙ ap (λ (k : ℕ). get_or (overwritten old c.args.to_byte piece) k 0) there)
-              | inr above ↦ inv.after i (omega (arith, all)) ∙ sym (above_piece old c.args.to_byte piece fits i (omega (arith, piece_long))) ] ]) in
+              | inr above ↦ inv.copied.after i (omega (arith, all)) ∙ sym (above_piece old c.args.to_byte piece fits i (omega (arith, piece_long))) ] ]) in
     sym (words_from-bytes_of ws inv.words) ∙ ap words_from bytes
