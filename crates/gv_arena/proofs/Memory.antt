@@ -1,7 +1,7 @@
--- What the walks of the unsafe functions share. Assumes `Logic`.
+-- What the walks of the functions with pointers share.
 --     word_had, word_made, mark_had, mark_made      a value of one pointer, and one of no bytes
---     slot_out, slot_in, run_out, run_in, slot_seen, run_seen      one place or a run of places is taken out of the row, put back, or seen
---     of_room, to_room      room for an array is a row of empty places
+--     slot_out, slot_in, slot_seen      one place is taken out of the row, put back, or seen
+--     of_room, forgets      room for an array is a row of empty places, and any row of places can be made room again
 use mathlib.Core.Path.{◌≡◌, refl, sym, ap, subst, ◌∙◌}
 use Prim.Native.Nat.{ℕ, zero, suc, ◌+◌, ◌*◌, ◌<◌, ◌≤◌}
 use native.Mathlib.Omega.{arith}

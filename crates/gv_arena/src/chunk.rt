@@ -3,7 +3,7 @@ ghost use Rattle.std.specs.Prelude.{◌≡◌, ℕ, ◌+◌, ◌<◌, ◌≤◌,
 ghost use Rattle.gv_types.specs.Memory.{zero_words};
 
 ghost use Rattle.gv_arena.specs.Contents.{words_or_none};
-ghost use Rattle.gv_arena.specs.Rows.{row_copied};
+ghost use Rattle.gv_arena.specs.Rows.{row_copied, IsRowCopied};
 ghost use Rattle.gv_arena.specs.Store.{no_pages};
 
 use crate::places::{Deed, Places, Start, allocate, deallocate};
@@ -108,7 +108,8 @@ impl Chunk {
         requires live { IsSome (slice_index_or self.old slot None) }
         requires from_within { from_byte + count ≤ 4096 }
         requires to_within { to_byte + count ≤ 4096 }
-        ensures { self.new ≡ slice_set self.old slot (Some (row_copied source.now from_byte (words_or_none (slice_index_or self.old slot None)) to_byte count)) }
+        ensures places { self.new ≡ slice_set self.old slot (Some (row_copied source.now from_byte (words_or_none (slice_index_or self.old slot None)) to_byte count)) }
+        ensures copied { IsRowCopied source.now (words_or_none (slice_index_or self.old slot None)) (row_copied source.now from_byte (words_or_none (slice_index_or self.old slot None)) to_byte count) from_byte to_byte count }
     {
         let target = self.places.get_mut(self.start, slot);
         copy_bytes(source, from_byte, target, to_byte, count);

@@ -6,7 +6,7 @@ ghost use Rattle.std.specs.Borrow.{sem};
 ghost use Rattle.std.specs.Vec.Ownership.{FitsInBlock};
 ghost use base.Fml.{ftrue};
 ghost use denote.RawPtr.{Ptr};
-ghost use Rattle.gv_arena.specs.Ownership.{cells_own, cells_lent, deed_owns};
+ghost use Rattle.gv_arena.specs.Ownership.{places_own, places_lent, deed_owns};
 
 use std::alloc::{AllocError, Allocator};
 use std::marker::{Model, PhantomData};
@@ -37,9 +37,9 @@ pub(crate) struct Places<T> {
 }
 
 impl<T> Model for Places<T> {
-    ghost also_owns = { λ c. cells_own T.row c.at c.slots };
+    ghost also_owns = { λ p. places_own T.row p.at p.slots };
 
-    ghost also_shares = { λ c _ κ. cells_lent T.row c.at c.slots κ };
+    ghost also_shares = { λ p _ κ. places_lent T.row p.at p.slots κ };
 }
 
 /// The right to give the allocation of `len` places at `at` back to `alloc`. It takes no space.
@@ -66,11 +66,11 @@ pub(crate) fn allocate<T, A: Allocator>(
 {
     match alloc.allocate(len * size_of::<T>(), align_of::<T>()) {
         Ok(block) => {
-            let base = Start {
+            let start = Start {
                 ptr: block as *mut T,
             };
             Ok((
-                base,
+                start,
                 Places { mark: PhantomData },
                 Deed { mark: PhantomData },
             ))
@@ -82,17 +82,17 @@ pub(crate) fn allocate<T, A: Allocator>(
 /// Gives the memory back. What the places still hold is forgotten.
 pub(crate) fn deallocate<T, A: Allocator>(
     alloc: &A,
-    base: Start<T>,
+    start: Start<T>,
     len: usize,
-    cells: Places<T>,
+    places: Places<T>,
     deed: Deed<T, A>,
 )
-    requires { (cells.at ≡ base.ptr) × (length cells.slots ≡ len) × (deed.at ≡ base.ptr) × (deed.len ≡ len) × (deed.alloc ≡ alloc.now) }
+    requires { (places.at ≡ start.ptr) × (length places.slots ≡ len) × (deed.at ≡ start.ptr) × (deed.len ≡ len) × (deed.alloc ≡ alloc.now) }
 {
-    let Places { mark: _ } = cells;
+    let Places { mark: _ } = places;
     let Deed { mark: _ } = deed;
     unsafe {
-        alloc.deallocate(base.ptr as *mut u8, len * size_of::<T>(), align_of::<T>());
+        alloc.deallocate(start.ptr as *mut u8, len * size_of::<T>(), align_of::<T>());
     }
 }
 
@@ -100,36 +100,36 @@ impl<T> Places<T> {
     ghost use Rattle.gv_arena.specs.Lends.{lends_slot};
 
     /// Fills an empty place.
-    pub(crate) fn write(&mut self, base: Start<T>, index: usize, item: T)
-        requires { (base.ptr ≡ self.old.at) × (index < length self.old.slots) × (get_or self.old.slots index None ≡ None) }
-        ensures { (self.new.at ≡ self.old.at) × (self.new.slots ≡ slice_set self.old.slots index (Some item)) }
+    pub(crate) fn write(&mut self, start: Start<T>, index: usize, value: T)
+        requires { (start.ptr ≡ self.old.at) × (index < length self.old.slots) × (get_or self.old.slots index None ≡ None) }
+        ensures { (self.new.at ≡ self.old.at) × (self.new.slots ≡ slice_set self.old.slots index (Some value)) }
     {
-        unsafe { base.ptr.add(index).write(item) }
+        unsafe { start.ptr.add(index).write(value) }
     }
 
     /// Takes the value out of a place, which is empty from then on.
-    pub(crate) fn read(&mut self, base: Start<T>, index: usize) -> T
-        requires { (base.ptr ≡ self.old.at) × IsSome (get_or self.old.slots index None) }
+    pub(crate) fn read(&mut self, start: Start<T>, index: usize) -> T
+        requires { (start.ptr ≡ self.old.at) × IsSome (get_or self.old.slots index None) }
         ensures value { get_or self.old.slots index None ≡ Some result }
         ensures slots { (self.new.at ≡ self.old.at) × (self.new.slots ≡ slice_set self.old.slots index None) }
     {
-        unsafe { base.ptr.add(index).read() }
+        unsafe { start.ptr.add(index).read() }
     }
 
     /// The value of a place.
-    pub(crate) fn get(&self, base: Start<T>, index: usize) -> &T
-        requires { (base.ptr ≡ self.now.at) × IsSome (get_or self.now.slots index None) }
+    pub(crate) fn get(&self, start: Start<T>, index: usize) -> &T
+        requires { (start.ptr ≡ self.now.at) × IsSome (get_or self.now.slots index None) }
         ensures { get_or self.now.slots index None ≡ Some result.now }
     {
-        unsafe { &*base.ptr.add(index) }
+        unsafe { &*start.ptr.add(index) }
     }
 
     /// The value of a place, to be written.
-    pub(crate) fn get_mut(&mut self, base: Start<T>, index: usize) -> &mut T
-        requires { (base.ptr ≡ self.old.at) × IsSome (get_or self.old.slots index None) }
+    pub(crate) fn get_mut(&mut self, start: Start<T>, index: usize) -> &mut T
+        requires { (start.ptr ≡ self.old.at) × IsSome (get_or self.old.slots index None) }
         ensures* writes_back { sem 𝓛 (lends_slot T.row self.entry index result) }
         ensures value { get_or self.old.slots index None ≡ Some result.now }
     {
-        unsafe { &mut *base.ptr.add(index) }
+        unsafe { &mut *start.ptr.add(index) }
     }
 }

@@ -2,7 +2,7 @@
 ghost use Rattle.std.specs.Prelude.{◌≡◌, ℕ, ◌+◌, ◌<◌, ◌≤◌, List, [], ◌++◌, Option, Some, None, length, slice_index_or, slice_set, IsSome, OnOk};
 ghost use Rattle.gv_types.specs.Memory.{zero_words};
 ghost use Rattle.gv_arena.specs.Contents.{words_or_none};
-ghost use Rattle.gv_arena.specs.Rows.{row_copied};
+ghost use Rattle.gv_arena.specs.Rows.{row_copied, IsRowCopied};
 ghost use Rattle.gv_arena.specs.Store.{joined, AreChunks, IsLonger};
 
 use crate::chunk::{CHUNK_PAGES, Chunk, Page};
@@ -97,7 +97,8 @@ impl Store {
         requires from_within { from_byte + count ≤ 4096 }
         requires to { IsSome (slice_index_or self.old to None) }
         requires to_within { to_byte + count ≤ 4096 }
-        ensures { self.new ≡ slice_set self.old to (Some (row_copied (words_or_none (slice_index_or self.old from None)) from_byte (words_or_none (slice_index_or self.old to None)) to_byte count)) }
+        ensures places { self.new ≡ slice_set self.old to (Some (row_copied (words_or_none (slice_index_or self.old from None)) from_byte (words_or_none (slice_index_or self.old to None)) to_byte count)) }
+        ensures copied { IsRowCopied (words_or_none (slice_index_or self.old from None)) (words_or_none (slice_index_or self.old to None)) (row_copied (words_or_none (slice_index_or self.old from None)) from_byte (words_or_none (slice_index_or self.old to None)) to_byte count) from_byte to_byte count }
     {
         let source = *self.page(from);
         self.chunks[to / CHUNK_PAGES].copy_in(

@@ -1,5 +1,5 @@
 -- One part more of the row is copied, and at the end the page's bytes are those of the row's definition.
-use Rattle.std.proofs.Common.{◌≡◌, ℕ, ◌+◌, ◌-◌, ◌<◌, ◌≤◌, List, length, take, drop, get_or, sym, ap, ◌∙◌, refl, inl, inr, arith, length-drop, get_or-take, get_or-drop, ext_get_or}
+use Rattle.std.proofs.Common.{◌≡◌, ℕ, ◌+◌, ◌-◌, ◌<◌, ◌≤◌, List, length, take, drop, get_or, sym, ap, subst, ◌∙◌, refl, inl, inr, arith, length-drop, get_or-take, get_or-drop, ext_get_or}
 use Rattle.std.proofs.lemmas.Bool.{cases_lt}
 use Rattle.std.proofs.lemmas.List.{length-take-le}
 use Rattle.gv_arena.specs.Rows.{bytes_of, words_from, overwritten, row_copied, IsCopied}
@@ -33,9 +33,16 @@ loop-done-preserved c = record {
   copied = copied_more (bytes_of c.args.source.now) (bytes_of c.args.target.now) (bytes_of c.loop-done.target) (bytes_of c.copy_first-done.new.target) c.args.from_byte c.args.to_byte c.loop-done.done c.copy_first-done.result
     c.loop-done.invariant.copied c.copy_first-done.ensures.copied }
 
-pub returns : goal.returns
+pub returns-clause-copied : goal.returns-clause-copied
+returns-clause-copied c =
+    let all : c.loop-done.done ≡ c.args.count = omega (arith, c.loop-done.invariant.within, c.loop-done-test.false) in
+    record {
+      long = c.loop-done.invariant.long;
+      bytes = subst (λ (n : ℕ). IsCopied (bytes_of c.args.source.now) (bytes_of c.args.target.now) (bytes_of c.loop-done.target) c.args.from_byte c.args.to_byte n) all c.loop-done.invariant.copied }
+
+pub returns-clause-row : goal.returns-clause-row
 unfolding row_copied
-returns c =
+returns-clause-row c =
     let inv = c.loop-done.invariant in
     let ws = c.loop-done.target in
     let source = bytes_of c.args.source.now in

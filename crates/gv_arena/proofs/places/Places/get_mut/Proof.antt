@@ -1,4 +1,4 @@
--- `get_mut` lends one value, and the places follow it. Assumes `Logic`.
+-- `get_mut` lends one value, and the places follow it.
 use mathlib.Core.Path.{◌≡◌, refl, sym, subst, ◌∙◌}
 use Prim.Native.Nat.{ℕ, ◌+◌, ◌*◌, ◌<◌, ◌^◌}
 use native.Mathlib.Omega.{arith}
@@ -46,7 +46,7 @@ use Rattle.std.specs.Prelude.{Some, None, IsSome}
 use Rattle.core.proofs.mem.Param.{El, R, args, el_x}
 use Rattle.core.proofs.ptr.Rows.{times_below, one_below}
 use Rattle.gv_arena.proofs.Filled.{IsFilled, filled}
-use Rattle.gv_arena.specs.Ownership.{slot, slots, cells_own}
+use Rattle.gv_arena.specs.Ownership.{slot, slots, places_own}
 use Rattle.gv_arena.proofs.Memory.{Cr, Bs, Mark, sz, Place, word_had, filled_within, Besides, slot_out, slot_in}
 use denote.Follow.{follows, Part, lends_Part}
 use Rattle.gv_arena.specs.Lends.{with_slots}
@@ -101,7 +101,7 @@ module _ (E : El) {M : Type 1} {𝓤 : Ura M} (𝓛 : Logic 𝓤) (C : Calls �
         qed 𝓛 (‵ (slot (R E) b (index * sz E + o) (Some w)) ∷ ‵ Rest ∷ []) ∵ move ! (1 ∷ []) $ fsplit3 ! $ move ! (3 ∷ 0 ∷ []) $
         use2 𝓛 (‵ (slots (R E) b o (new w).slots)) (slot_in E 𝓛 b o d.slots index within (Some w)) $
         flt_i ! (length (new w).slots * sz E) (2 ^ 63) (subst (λ k. k * sz E < 2 ^ 63) (sym long) small) $ fjoin ! $
-        rewrite ! 0 (λ (p : Ptr). ‵ (cells_own (R E) p (new w).slots)) (sym e) refl $ move ! (1 ∷ 0 ∷ []) $ fjoin ! $ move ! (1 ∷ 0 ∷ []) $ fjoin ! $
+        rewrite ! 0 (λ (p : Ptr). ‵ (places_own (R E) p (new w).slots)) (sym e) refl $ move ! (1 ∷ 0 ∷ []) $ fjoin ! $ move ! (1 ∷ 0 ∷ []) $ fjoin ! $
         fpack ! (List Val) (λ us. fsep (cell_at full_share (Cr E).mir us rb ro) ((Cr E).own_val (new w) us)) vs $ done !
 
   exits : (v : Val) (r : MutBor (el_x E)) → Gives0 E d base index r
@@ -121,7 +121,7 @@ module _ (E : El) {M : Type 1} {𝓤 : Ura M} (𝓛 : Logic 𝓤) (C : Calls �
       qed 𝓛 Had ∵ enter ! C Λ (function E) (vptr rb ro ∷ word base.ptr ∷ vint w64 index ∷ []) _ $ alloc_all ! (λ l. pass_all ! refl ((tt, tt), (word-Good [] base.ptr, ((tt, record { fits = fits_index }), tt))) $
       let En : Env 𝓤 H = env (function E).locals l in
       opens ! tt (Cr E) {h = d} rb ro (λ vs. move ! (1 ∷ []) $ fsplit ! $ move ! (1 ∷ []) $
-      in_a_block ! d.at (λ p. cells_own (R E) p d.slots) (id⊢ 𝓤 (never 𝓤)) (λ b o e. fsplit ! $ flt_l ! (λ small.
+      in_a_block ! d.at (λ p. places_own (R E) p d.slots) (id⊢ 𝓤 (never 𝓤)) (λ b o e. fsplit ! $ flt_l ! (λ small.
       let s = sz E in let tiny : s < 2 ^ 64 = omega (arith, one_below (length d.slots) s (2 ^ 63) (omega arith) small) in
       let far : index * s < 2 ^ 64 = omega (arith, times_below index (length d.slots) s (2 ^ 63) (omega arith) small) in
       take_at ! 2 $ rewrite ! 0 (λ (p : Ptr). ‵ (fat full_share (layout (Bs E)) (l 2) 0 (word p))) (asked.0 ∙ e) refl $ give_at ! 2 $ first ! $ blocks ! $
