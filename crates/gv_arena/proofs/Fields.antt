@@ -1,5 +1,5 @@
 -- What an arena's fields say of its contents.
-use Rattle.std.proofs.Common.{◌≡◌, ℕ, zero, suc, ◌+◌, ◌-◌, ◌<◌, ◌≤◌, Bool, true, false, List, [], ◌∷◌, length, map, set, get_or, refl, sym, ap, ◌∙◌, arith, length-set, Some, None}
+use Rattle.std.proofs.Common.{◌≡◌, ℕ, zero, suc, ◌+◌, ◌<◌, Bool, true, false, List, [], ◌∷◌, length, set, get_or, sym, ap, ◌∙◌, arith, length-set, None}
 use Rattle.std.proofs.lemmas.List.Sums.{sum_by-set, count_by-le-length}
 use Rattle.std.specs.Prelude.{count_by, cond, IsSome}
 use Rattle.std.specs.Option.{is_some}
@@ -8,7 +8,7 @@ use Rattle.gv_arena.specs.Store.{Place}
 use Rattle.gv_arena.specs.ArenaHolds.{Holds, contents, spare_of}
 use Rattle.gv_arena.specs.declared.arena.Arena.TheInside.{Inside}
 use Rattle.gv_arena.proofs.Padding.{get_or-padded, set-padded}
-use Rattle.gv_arena.proofs.Marked.{marked_at, live_is, marked_set, marked_kept}
+use Rattle.gv_arena.proofs.Marked.{marked_at, live_is}
 
 marked_within : (marks : List Bool) (i : ℕ) → get_or marks i false ≡ true → i < length marks
 marked_within [] i e = cc

@@ -1,8 +1,8 @@
 -- Places with empty ones after them.
-use Rattle.std.proofs.Common.{◌≡◌, ℕ, zero, ◌+◌, ◌-◌, ◌≤◌, List, [], ◌∷◌, ◌++◌, length, replicate, refl, sym, ap, ◌∙◌, arith, length-append, append-nil, None}
+use Rattle.std.proofs.Common.{◌≡◌, ℕ, ◌+◌, ◌-◌, ◌≤◌, List, ◌++◌, length, replicate, sym, ap, ◌∙◌, arith, length-append, append-nil, None}
 use Rattle.std.proofs.lemmas.List.{length-replicate, append_assoc, replicate-append-replicate}
 use Rattle.gv_arena.specs.Store.{Place, no_pages, IsLonger}
-use Rattle.gv_arena.specs.Contents.{page_limit, padded}
+use Rattle.gv_arena.specs.Contents.{padded}
 use Rattle.gv_arena.proofs.Padding.{limit_is, padded_more}
 
 pub length-no_pages : (n : ℕ) → length (no_pages n) ≡ n

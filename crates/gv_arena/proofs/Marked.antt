@@ -1,8 +1,8 @@
 -- The marks of a store's places: which are filled.
-use Rattle.std.proofs.Common.{◌≡◌, ℕ, zero, suc, ◌+◌, ◌<◌, ◌≤◌, Bool, true, false, List, [], ◌∷◌, ◌-◌, length, map, set, get_or, replicate, refl, sym, ap, ◌∙◌, arith, Some, None}
+use Rattle.std.proofs.Common.{◌≡◌, ℕ, zero, suc, ◌<◌, Bool, false, List, [], ◌∷◌, ◌-◌, length, map, set, get_or, replicate, refl, sym, ap, ◌∙◌, arith, Some, None}
 use Rattle.std.proofs.lemmas.List.{map-set, set-get_or}
 use Rattle.std.proofs.lemmas.List.Sums.{sum_by-cons}
-use Rattle.std.specs.Prelude.{count_by, sum_by, cond, IsSome}
+use Rattle.std.specs.Prelude.{count_by, cond}
 use Rattle.std.specs.Option.{is_some}
 use Rattle.gv_arena.specs.Contents.{padded, page_limit}
 use Rattle.gv_arena.specs.Store.{Place}

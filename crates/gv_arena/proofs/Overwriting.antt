@@ -1,5 +1,5 @@
 -- A list with a piece written over some of its items, one by one.
-use Rattle.std.proofs.Common.{◌≡◌, ℕ, ◌+◌, ◌-◌, ◌*◌, ◌/◌, ◌%◌, ◌^◌, ◌<◌, ◌≤◌, List, [], ◌∷◌, ◌++◌, length, take, drop, get_or, set, refl, sym, ap, ◌∙◌, subst, inl, inr, arith, length-append, length-drop, get_or-take, get_or-drop, get_or-set_same, get_or-set_other}
+use Rattle.std.proofs.Common.{◌≡◌, ℕ, ◌+◌, ◌-◌, ◌*◌, ◌/◌, ◌%◌, ◌^◌, ◌<◌, ◌≤◌, List, ◌++◌, length, take, drop, get_or, set, refl, sym, ap, ◌∙◌, subst, inl, inr, arith, length-append, length-drop, get_or-take, get_or-drop, get_or-set_same, get_or-set_other}
 use Rattle.std.proofs.lemmas.Bool.{cases_lt, cases_eq}
 use Rattle.std.proofs.lemmas.List.{get_or_append_left, get_or-append_right, get_or_past, length-take-le}
 use Rattle.std.proofs.lemmas.Nat.{le_bytes_8}
@@ -37,8 +37,9 @@ module _ (xs : List ℕ) (at : ℕ) (piece : List ℕ) (fits : at + length piece
 
 bytes_below : (n i : ℕ) → get_or (to_le_bytes w64 n) i 0 < 256
 bytes_below n i = elim (cases_lt i 8) [
-    inl lt ↦ subst (λ (b : ℕ). b < 256) (sym (byte_in_list n i lt)) (byte_below i n)
-  | inr le ↦ subst (λ (b : ℕ). b < 256) (sym (get_or_past (to_le_bytes w64 n) i 0 le)) (omega arith) ]
+  | inl lt ↦ subst (λ (b : ℕ). b < 256) (sym (byte_in_list n i lt)) (byte_below i n)
+  | inr le ↦ subst (λ (b : ℕ). b < 256) (sym (get_or_past (to_le_bytes w64 n) i 0 le)) (omega arith)
+]
 
 -- a word with some of its bytes replaced by the first bytes of a value
 module _ (word at value n : ℕ) (fits : at + n ≤ 8) (w : ℕ) (is : w ≡ from_le_bytes w64 (overwritten (to_le_bytes w64 word) at (take n (to_le_bytes w64 value)))) where
@@ -53,12 +54,14 @@ module _ (word at value n : ℕ) (fits : at + n ≤ 8) (w : ℕ) (is : w ≡ fro
 
   all_below : (i : ℕ) → get_or (overwritten (to_le_bytes w64 word) at (take n (to_le_bytes w64 value))) i 0 < 256
   all_below i = elim (cases_lt i at) [
-      inl lt ↦ subst (λ (b : ℕ). b < 256) (sym (below_piece (to_le_bytes w64 word) at (take n (to_le_bytes w64 value)) small i lt)) (bytes_below word i)
+    | inl lt ↦ subst (λ (b : ℕ). b < 256) (sym (below_piece (to_le_bytes w64 word) at (take n (to_le_bytes w64 value)) small i lt)) (bytes_below word i)
     | inr le ↦ elim (cases_lt i (at + n)) [
-        inl inside ↦ (let there : at + (i - at) ≡ i = omega arith in
+      | inl inside ↦ (let there : at + (i - at) ≡ i = omega arith in
           subst (λ (b : ℕ). b < 256) (sym (get_or-take n (to_le_bytes w64 value) (i - at) 0 (omega arith)) ∙ sym (in_piece (to_le_bytes w64 word) at (take n (to_le_bytes w64 value)) small (i - at) (omega (arith, long)))
-            ∙ ap (λ (k : ℕ). get_or (overwritten (to_le_bytes w64 word) at (take n (to_le_bytes w64 value))) k 0) there) (bytes_below value (i - at)))
-      | inr past ↦ subst (λ (b : ℕ). b < 256) (sym (above_piece (to_le_bytes w64 word) at (take n (to_le_bytes w64 value)) small i (omega (arith, long)))) (bytes_below word i) ] ]
+          ∙ ap (λ (k : ℕ). get_or (overwritten (to_le_bytes w64 word) at (take n (to_le_bytes w64 value))) k 0) there) (bytes_below value (i - at)))
+      | inr past ↦ subst (λ (b : ℕ). b < 256) (sym (above_piece (to_le_bytes w64 word) at (take n (to_le_bytes w64 value)) small i (omega (arith, long)))) (bytes_below word i)
+    ]
+  ]
 
   bytes_are : to_le_bytes w64 w ≡ overwritten (to_le_bytes w64 word) at (take n (to_le_bytes w64 value))
   bytes_are = le_bytes_8 (overwritten (to_le_bytes w64 word) at (take n (to_le_bytes w64 value))) w (length-overwritten (to_le_bytes w64 word) at (take n (to_le_bytes w64 value)) small) all_below is
@@ -95,13 +98,15 @@ module _ (ws : List ℕ) (to n value w : ℕ) (within : to / 8 < length ws) (fit
 
   pub piece_below : (x : ℕ) → x < to → get_or (bytes_of (set ws (to / 8) w)) x 0 ≡ get_or (bytes_of ws) x 0
   piece_below x lt = elim (cases_eq (x / 8) (to / 8)) [
-      inl same ↦ same_word x same (byte_below_same (get_or ws (to / 8) 0) (to % 8) value n fits w is (x % 8) (omega arith))
-    | inr apart ↦ same_bytes ws (to / 8) w within x apart ]
+    | inl same ↦ same_word x same (byte_below_same (get_or ws (to / 8) 0) (to % 8) value n fits w is (x % 8) (omega arith))
+    | inr apart ↦ same_bytes ws (to / 8) w within x apart
+  ]
 
   pub piece_above : (x : ℕ) → to + n ≤ x → get_or (bytes_of (set ws (to / 8) w)) x 0 ≡ get_or (bytes_of ws) x 0
   piece_above x le = elim (cases_eq (x / 8) (to / 8)) [
-      inl same ↦ same_word x same (byte_above_same (get_or ws (to / 8) 0) (to % 8) value n fits w is (x % 8) (omega arith) (omega arith))
-    | inr apart ↦ same_bytes ws (to / 8) w within x apart ]
+    | inl same ↦ same_word x same (byte_above_same (get_or ws (to / 8) 0) (to % 8) value n fits w is (x % 8) (omega arith) (omega arith))
+    | inr apart ↦ same_bytes ws (to / 8) w within x apart
+  ]
 
 -- whole words of a page, written over as many words of another
 module _ (source old : List ℕ) (from to n : ℕ) (inside : from + n ≤ length source) (room : to + n ≤ length old) where
@@ -121,14 +126,17 @@ module _ (source old : List ℕ) (from to n : ℕ) (inside : from + n ≤ length
       let piece = take n (drop from source) in
       let fits : to + length piece ≤ length old = omega (arith, piece_long, room) in
       elim (cases_lt i to) [
-        inl below ↦ subst (λ (b : ℕ). b < 2 ^ 64) (sym (below_piece old to piece fits i below)) (second i)
-      | inr le ↦ elim (cases_lt i (to + n)) [
-          inl within ↦ (let there : to + (i - to) ≡ i = omega arith in
-            subst (λ (b : ℕ). b < 2 ^ 64) (sym (get_or-take n (drop from source) (i - to) 0 (omega arith) ∙ get_or-drop from source (i - to) 0)
+        | inl below ↦ subst (λ (b : ℕ). b < 2 ^ 64) (sym (below_piece old to piece fits i below)) (second i)
+        | inr le ↦ elim (cases_lt i (to + n)) [
+          | inl within ↦ (let there : to + (i - to) ≡ i = omega arith in
+              subst (λ (b : ℕ). b < 2 ^ 64) (sym (get_or-take n (drop from source) (i - to) 0 (omega arith) ∙ get_or-drop from source (i - to) 0)
               ∙ sym (in_piece old to piece fits (i - to) (omega (arith, piece_long))) ∙ ap (λ (k : ℕ). get_or (overwritten old to piece) k 0) there) (first (from + (i - to))))
-        | inr above ↦ subst (λ (b : ℕ). b < 2 ^ 64) (sym (above_piece old to piece fits i (omega (arith, piece_long)))) (second i) ] ]
+          | inr above ↦ subst (λ (b : ℕ). b < 2 ^ 64) (sym (above_piece old to piece fits i (omega (arith, piece_long)))) (second i)
+        ]
+      ]
 
 pub words_set : (ws : List ℕ) (j w : ℕ) → j < length ws → w < 2 ^ 64 → AreWords ws → AreWords (set ws j w)
 words_set ws j w within small words i = elim (cases_eq i j) [
-    inl same ↦ subst (λ (b : ℕ). b < 2 ^ 64) (sym (ap (λ (k : ℕ). get_or (set ws j w) k 0) same ∙ get_or-set_same ws j w 0 within)) small
-  | inr apart ↦ subst (λ (b : ℕ). b < 2 ^ 64) (sym (get_or-set_other ws j i w 0 apart)) (words i) ]
+  | inl same ↦ subst (λ (b : ℕ). b < 2 ^ 64) (sym (ap (λ (k : ℕ). get_or (set ws j w) k 0) same ∙ get_or-set_same ws j w 0 within)) small
+  | inr apart ↦ subst (λ (b : ℕ). b < 2 ^ 64) (sym (get_or-set_other ws j i w 0 apart)) (words i)
+]

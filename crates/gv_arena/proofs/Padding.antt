@@ -1,5 +1,5 @@
 -- A list that is padded up to the page limit, index by index.
-use Rattle.std.proofs.Common.{◌≡◌, ℕ, zero, suc, ◌+◌, ◌-◌, ◌<◌, ◌≤◌, List, [], ◌∷◌, ◌++◌, length, set, get_or, replicate, refl, sym, ap, ◌∙◌, subst, inl, inr, arith, length-append, length-set}
+use Rattle.std.proofs.Common.{◌≡◌, ℕ, zero, suc, ◌+◌, ◌-◌, ◌<◌, ◌≤◌, List, ◌++◌, length, set, get_or, replicate, refl, sym, ap, ◌∙◌, inl, inr, arith, length-append, length-set}
 use Rattle.std.proofs.lemmas.Bool.{cases_lt}
 use Rattle.std.proofs.lemmas.List.{length-replicate, get_or_append_left, get_or-append_right, get_or_past, set-append_left, append_assoc, replicate-append-replicate}
 use Rattle.std.proofs.lemmas.List.Sums.{sum_by-append, sum_by-cons}
@@ -19,8 +19,9 @@ module _ {X : Type 0} (x : X) where
   pub get_or-padded : (xs : List X) (i : ℕ) → get_or (padded x xs) i x ≡ get_or xs i x
   unfolding padded
   get_or-padded xs i = let more = page_limit - length xs in elim (cases_lt i (length xs)) [
-      inl lt ↦ get_or_append_left xs (replicate more x) x i lt
-    | inr le ↦ get_or-append_right xs (replicate more x) (length xs) i x refl le ∙ same-replicate more (i - length xs) ∙ sym (get_or_past xs i x le) ]
+    | inl lt ↦ get_or_append_left xs (replicate more x) x i lt
+    | inr le ↦ get_or-append_right xs (replicate more x) (length xs) i x refl le ∙ same-replicate more (i - length xs) ∙ sym (get_or_past xs i x le)
+  ]
 
   pub set-padded : (xs : List X) (i : ℕ) (y : X) → i < length xs → set (padded x xs) i y ≡ padded x (set xs i y)
   unfolding padded

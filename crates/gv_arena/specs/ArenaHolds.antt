@@ -1,5 +1,5 @@
 -- What the fields of an arena say, and what holds of them.
-use Rattle.std.specs.Prelude.{◌≡◌, ℕ, ◌-◌, ◌≤◌, Bool, false, Option, None, List, length, map, count_by}
+use Rattle.std.specs.Prelude.{◌≡◌, ℕ, ◌-◌, ◌≤◌, Bool, false, None, List, length, map, count_by}
 use Rattle.std.specs.Option.{is_some}
 use Rattle.gv_arena.specs.Contents.{Contents, padded}
 use Rattle.gv_arena.specs.declared.arena.Arena.TheInside.{Inside}

@@ -103,14 +103,7 @@ impl Arena {
 
     /// Copies a row of `count` bytes, which is as if read whole before it is written, also where
     /// the two spans overlap. Bytes are counted from the beginning of their page.
-    pub fn copy_row(
-        &mut self,
-        from: u64,
-        from_byte: usize,
-        to: u64,
-        to_byte: usize,
-        count: usize,
-    )
+    pub fn copy_row(&mut self, from: u64, from_byte: usize, to: u64, to_byte: usize, count: usize)
         requires from { IsSome (words_at self.old from) }
         requires from_within { from_byte + count ≤ 4096 }
         requires to { IsSome (words_at self.old to) }

@@ -1,14 +1,12 @@
 //! Places for 64 pages in one allocation, which never moves.
 ghost use Rattle.std.specs.Prelude.{◌≡◌, ℕ, ◌+◌, ◌<◌, ◌≤◌, List, Option, Some, None, length, slice_index_or, slice_set, IfOk, IsSome};
 ghost use Rattle.gv_types.specs.Memory.{zero_words};
-
 ghost use Rattle.gv_arena.specs.Contents.{words_or_none};
 ghost use Rattle.gv_arena.specs.Rows.{row_copied, IsRowCopied};
 ghost use Rattle.gv_arena.specs.Store.{no_pages};
 
 use crate::places::{Deed, Places, Start, allocate, deallocate};
 use crate::row::copy_bytes;
-
 use std::alloc::{AllocError, Global};
 use std::marker::Model;
 

@@ -72,13 +72,7 @@ fn copy_words(source: &Page, from: usize, target: &mut Page, to: usize, count: u
 
 /// Copies the first bytes of a row, in whole words where both sides begin with one, and answers
 /// how many.
-fn copy_first(
-    source: &Page,
-    from: usize,
-    target: &mut Page,
-    to: usize,
-    count: usize,
-) -> usize
+fn copy_first(source: &Page, from: usize, target: &mut Page, to: usize, count: usize) -> usize
     requires from { from + count ≤ 4096 }
     requires to { to + count ≤ 4096 }
     requires some { 0 < count }

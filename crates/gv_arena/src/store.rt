@@ -101,12 +101,6 @@ impl Store {
         ensures copied { IsRowCopied (words_or_none (slice_index_or self.old from None)) (words_or_none (slice_index_or self.old to None)) (row_copied (words_or_none (slice_index_or self.old from None)) from_byte (words_or_none (slice_index_or self.old to None)) to_byte count) from_byte to_byte count }
     {
         let source = *self.page(from);
-        self.chunks[to / CHUNK_PAGES].copy_in(
-            to % CHUNK_PAGES,
-            &source,
-            from_byte,
-            to_byte,
-            count,
-        );
+        self.chunks[to / CHUNK_PAGES].copy_in(to % CHUNK_PAGES, &source, from_byte, to_byte, count);
     }
 }

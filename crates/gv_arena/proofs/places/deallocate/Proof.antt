@@ -37,11 +37,10 @@ use Rattle.std_alloc.proofs.RcSteps.{word, word-Good}
 use types.Kit.{flt_l}
 use types.Run.{bin}
 use denote.Builtin.{usize}
-use Rattle.std.specs.Prelude.{None}
 use Rattle.core.proofs.mem.Param.{El, R, elτ}
 use Rattle.std_alloc.proofs.RawLayout.{as_raw}
 use Rattle.gv_arena.specs.Ownership.{places_own}
-use Rattle.gv_arena.proofs.Memory.{Cr, Bs, sz, Place, mark, mark_had, word_had}
+use Rattle.gv_arena.proofs.Memory.{Cr, Bs, sz, mark, mark_had, word_had}
 use base.Fml.{Incl-trans}
 use lib.Dec.{T}
 use lib.ListN.{length}

@@ -7,7 +7,8 @@ invariant-loop-done l = record {
   within : l.done ≤ l.count;
   long : length l.target ≡ 512;
   words : AreWords l.target;
-  copied : IsCopied (bytes_of l.source) (bytes_of l.initial.target) (bytes_of l.target) l.from_byte l.to_byte l.done }
+  copied : IsCopied (bytes_of l.source) (bytes_of l.initial.target) (bytes_of l.target) l.from_byte l.to_byte l.done;
+}
 
 abbrev pub decreases-loop-done : goal.decreases-loop-done
 decreases-loop-done l = l.count - l.done

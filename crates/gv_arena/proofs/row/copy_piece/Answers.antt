@@ -1,4 +1,4 @@
-use Rattle.std.proofs.Common.{◌≡◌, ◌/◌, ◌%◌, ◌+◌, ◌<◌, ◌≤◌, length, ◌∙◌, arith}
+use Rattle.std.proofs.Common.{◌/◌, ◌%◌, ◌+◌, ◌<◌, ◌≤◌, length, ◌∙◌, arith}
 use Rattle.gv_arena.proofs.Overwriting.{piece_inside, piece_below, piece_above, words_set}
 use Rattle.gv_arena.proofs.row.copy_piece.Goals as goal
 
@@ -15,4 +15,5 @@ returns-clause-copied c =
     record {
       copied = λ m lt. piece_inside ws to n c.word_at-value.result c.with_bytes.result within fits c.with_bytes.ensures m lt ∙ c.word_at-value.ensures m (omega (arith, fits));
       before = piece_below ws to n c.word_at-value.result c.with_bytes.result within fits c.with_bytes.ensures;
-      after = piece_above ws to n c.word_at-value.result c.with_bytes.result within fits c.with_bytes.ensures }
+      after = piece_above ws to n c.word_at-value.result c.with_bytes.result within fits c.with_bytes.ensures;
+    }

@@ -21,7 +21,8 @@ returns c =
     let end : to + (to + n - to) ≡ to + length piece = omega (arith, long) in
     let mid : c.copy_from_slice.new.self ≡ piece = c.copy_from_slice.ensures.after ∙ ap (λ (m : ℕ). take m (drop from source)) read in
     let new = ap (λ (ys : List ℕ). take to old ++ (ys ++ drop (to + n - to) (drop to old))) mid
-          ∙ ap (λ (ys : List ℕ). take to old ++ (piece ++ ys)) (drop-drop (to + n - to) to old ∙ ap (λ (m : ℕ). drop m old) end) in
+    ∙ ap (λ (ys : List ℕ). take to old ++ (piece ++ ys)) (drop-drop (to + n - to) to old ∙ ap (λ (m : ℕ). drop m old) end) in
     record {
       copied = subst (λ (ws : List ℕ). IsCopied (bytes_of source) (bytes_of old) (bytes_of ws) (from * 8) (to * 8) (n * 8)) (sym new) (span_copied source old from to n inside room);
-      words = subst AreWords (sym new) (span_words source old from to n inside room c.fits-source c.fits-target) }
+      words = subst AreWords (sym new) (span_words source old from to n inside room c.fits-source c.fits-target);
+    }

@@ -10,6 +10,7 @@ pub returns : goal.returns
 returns c i small =
     let words = c.args.words.now in
     let next : c.if-index-lt-PAGE_WORDS.next ≡ get_or words (c.args.at / 8 + 1) 0 = elim c.if-index-lt-PAGE_WORDS.branch [
-      then-index-lt-PAGE_WORDS w ↦ w.next-is
-    | else-index-lt-PAGE_WORDS w ↦ w.next-is ∙ sym (get_or_past words (c.args.at / 8 + 1) 0 (omega (arith, w.if-index-lt-PAGE_WORDS.false, c.told-words))) ] in
+      | then-index-lt-PAGE_WORDS w ↦ w.next-is
+      | else-index-lt-PAGE_WORDS w ↦ w.next-is ∙ sym (get_or_past words (c.args.at / 8 + 1) 0 (omega (arith, w.if-index-lt-PAGE_WORDS.false, c.told-words)))
+    ] in
     ap (byte_at i) c.window.ensures ∙ window_reads words c.told-words c.fits-words c.args.at c.if-index-lt-PAGE_WORDS.next c.requires next i small

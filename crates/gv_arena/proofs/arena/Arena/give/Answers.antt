@@ -1,10 +1,9 @@
 -- A number that was not live, and its place, which was empty, become a live page.
-use Rattle.std.proofs.Common.{◌≡◌, ◌∙◌, ◌+◌, ◌<◌, List, Bool, true, false, Some, None, length, map, set, get_or, sym, ap, subst, arith, length-set, get_or-set_same}
-use Rattle.std.specs.Prelude.{IsSome}
+use Rattle.std.proofs.Common.{◌∙◌, ◌<◌, List, true, false, Some, None, length, map, get_or, sym, ap, arith, length-set, get_or-set_same}
 use Rattle.std.specs.Option.{is_some}
 use Rattle.gv_types.specs.Memory.{zero_words}
 use Rattle.gv_arena.specs.ArenaHolds.{spare_of}
-use Rattle.gv_arena.specs.Contents.{Contents, padded, words_at}
+use Rattle.gv_arena.specs.Contents.{padded}
 use Rattle.gv_arena.specs.Store.{Place}
 use Rattle.gv_arena.proofs.Padding.{get_or-padded}
 use Rattle.gv_arena.proofs.Marked.{marked_at, marked_set, not_some}
@@ -23,7 +22,8 @@ invariant_of-self c =
     record {
       marked = ap (λ (ps : List Place). map is_some (padded None ps)) c.fill.ensures ∙ marked_set a.store a.numbers c.self.invariant.marked page (Some zero_words) within named ∙ ap (padded false) (sym c.give-page.ensures.marked);
       enough = omega (arith, ap length c.fill.ensures, ap length c.give-page.ensures.marked, length-set a.store page (Some zero_words), length-set a.numbers page true, c.self.invariant.enough);
-      within = omega (arith, ap length c.fill.ensures, length-set a.store page (Some zero_words), c.self.invariant.within) }
+      within = omega (arith, ap length c.fill.ensures, length-set a.store page (Some zero_words), c.self.invariant.within);
+    }
 
 pub returns-clause-number : goal.returns-clause-number
 returns-clause-number c =

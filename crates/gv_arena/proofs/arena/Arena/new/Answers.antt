@@ -1,4 +1,4 @@
-use Rattle.std.proofs.Common.{◌∙◌, List, Bool, false, None, length, map, ap, sym, arith}
+use Rattle.std.proofs.Common.{◌∙◌, List, false, None, length, map, ap, sym, arith}
 use Rattle.std.specs.Option.{is_some}
 use Rattle.gv_arena.specs.Contents.{padded}
 use Rattle.gv_arena.specs.Store.{Place}
@@ -9,4 +9,5 @@ pub invariant_of-result : goal.invariant_of-result
 invariant_of-result c = record {
   marked = ap (λ (ps : List Place). map is_some (padded None ps)) c.new.ensures ∙ marked_none ∙ ap (padded false) (sym c.new-2.ensures);
   enough = omega (arith, ap length c.new.ensures, ap length c.new-2.ensures);
-  within = omega (arith, ap length c.new.ensures) }
+  within = omega (arith, ap length c.new.ensures);
+}

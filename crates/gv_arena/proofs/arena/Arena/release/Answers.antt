@@ -1,5 +1,5 @@
 -- The page's place is emptied, and its number can be given.
-use Rattle.std.proofs.Common.{◌≡◌, ◌∙◌, ◌+◌, List, Bool, false, None, length, map, set, get_or, sym, ap, subst, arith, length-set}
+use Rattle.std.proofs.Common.{◌∙◌, ◌+◌, List, false, None, length, map, sym, ap, subst, arith, length-set}
 use Rattle.std.specs.Prelude.{IsSome}
 use Rattle.std.specs.Option.{is_some}
 use Rattle.gv_arena.specs.ArenaHolds.{spare_of}
@@ -23,7 +23,8 @@ invariant_of-self c =
     record {
       marked = ap (λ (ps : List Place). map is_some (padded None ps)) c.empty.ensures ∙ marked_set a.store a.numbers c.self.invariant.marked c.args.page None within named ∙ ap (padded false) (sym c.take_back.ensures);
       enough = omega (arith, ap length c.empty.ensures, ap length c.take_back.ensures, length-set a.store c.args.page None, length-set a.numbers c.args.page false, c.self.invariant.enough);
-      within = omega (arith, ap length c.empty.ensures, length-set a.store c.args.page None, c.self.invariant.within) }
+      within = omega (arith, ap length c.empty.ensures, length-set a.store c.args.page None, c.self.invariant.within);
+    }
 
 pub returns : goal.returns
 returns c =

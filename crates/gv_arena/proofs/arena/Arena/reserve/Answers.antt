@@ -1,9 +1,9 @@
 -- The numbers reach up to the live pages and those asked for.
-use Rattle.std.proofs.Common.{◌≡◌, ℕ, ◌∙◌, ◌+◌, ◌≤◌, List, Option, arith, ap, sym}
+use Rattle.std.proofs.Common.{◌≡◌, ℕ, ◌+◌, List, Option, arith, ap}
 use Rattle.std.proofs.lemmas.Result.{on_ok_weaker}
 use Rattle.std.specs.Prelude.{count_by}
 use Rattle.std.specs.Option.{is_some}
-use Rattle.gv_arena.specs.Contents.{Contents, live}
+use Rattle.gv_arena.specs.Contents.{live}
 use Rattle.gv_arena.proofs.Fields.{all_are, live_are}
 use Rattle.gv_arena.proofs.arena.Arena.reserve.Goals as goal
 

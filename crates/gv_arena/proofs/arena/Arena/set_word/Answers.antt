@@ -1,5 +1,5 @@
 -- The page has other words, and stays live.
-use Rattle.std.proofs.Common.{◌≡◌, ◌∙◌, List, Some, None, length, map, set, get_or, sym, ap, subst, refl, arith, length-set}
+use Rattle.std.proofs.Common.{◌∙◌, List, Some, None, length, map, set, get_or, sym, ap, subst, arith, length-set}
 use Rattle.std.specs.Prelude.{IsSome}
 use Rattle.std.specs.Option.{is_some}
 use Rattle.gv_arena.specs.Contents.{padded, words_or_none}
@@ -21,7 +21,8 @@ invariant_of-self c =
     record {
       marked = ap (λ (ps : List Place). map is_some (padded None ps)) c.set_word.ensures ∙ marked_kept a.store a.numbers c.self.invariant.marked page p within (ap is_some at ∙ c.requires.live);
       enough = omega (arith, ap length c.set_word.ensures, length-set a.store page p, c.self.invariant.enough);
-      within = omega (arith, ap length c.set_word.ensures, length-set a.store page p, c.self.invariant.within) }
+      within = omega (arith, ap length c.set_word.ensures, length-set a.store page p, c.self.invariant.within);
+    }
 
 pub returns : goal.returns
 returns c =

@@ -1,4 +1,4 @@
-use Rattle.std.proofs.Common.{◌≡◌, ℕ, List, None, get_or, sym, ap, subst, ◌∙◌}
+use Rattle.std.proofs.Common.{ℕ, List, None, get_or, sym, ap, subst, ◌∙◌}
 use Rattle.gv_arena.specs.Contents.{words_or_none}
 use Rattle.gv_arena.specs.Rows.{row_copied, IsRowCopied}
 use Rattle.gv_arena.specs.Store.{Place}

@@ -1,7 +1,6 @@
 -- One more number, which is not live, and which can be given.
-use Rattle.std.proofs.Common.{◌≡◌, ◌++◌, ◌∷◌, [], ◌+◌, false, length, replicate, refl, sym, ap, ◌∙◌, subst, arith}
+use Rattle.std.proofs.Common.{◌≡◌, ◌++◌, ◌∷◌, [], false, length, ap, ◌∙◌, arith}
 use Rattle.std.proofs.lemmas.List.{append_assoc, replicate_more, length_push}
-use Rattle.gv_arena.specs.Numbers.{AreFree}
 use Rattle.gv_arena.proofs.FreeNumbers.{one_added}
 use Rattle.gv_arena.proofs.numbers.Numbers.add.Goals as goal
 
@@ -20,4 +19,5 @@ loop-step-preserved c =
       more = omega (arith, more, inv.more);
       live = inv.live;
       marks_room = omega (arith, inv.marks_room, c.push_reserved.ensures.capacity);
-      free_room = omega (arith, inv.free_room, c.push_reserved-in-loop-step.ensures.capacity) }
+      free_room = omega (arith, inv.free_room, c.push_reserved-in-loop-step.ensures.capacity);
+    }

@@ -10,4 +10,5 @@ invariant-loop-step l = record {
   more : length l.self-inside.free.items ≡ length l.initial.self-inside.free.items + l._step;
   live : l.self-inside.live ≡ l.initial.self-inside.live;
   marks_room : length l.initial.self-inside.marks.items + l.more ≤ vec_capacity l.self-inside.marks;
-  free_room : length l.initial.self-inside.marks.items + l.more ≤ vec_capacity l.self-inside.free }
+  free_room : length l.initial.self-inside.marks.items + l.more ≤ vec_capacity l.self-inside.free;
+}

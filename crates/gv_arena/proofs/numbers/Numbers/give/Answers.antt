@@ -1,8 +1,8 @@
 -- The number given was the last that could be given, and is now marked.
-use Rattle.std.proofs.Common.{◌≡◌, ℕ, ◌<◌, ◌++◌, ◌∷◌, [], true, false, length, get_or, set, ap, subst, ◌∙◌, arith, length-set}
+use Rattle.std.proofs.Common.{◌≡◌, ℕ, ◌++◌, ◌∷◌, [], true, false, length, get_or, ap, subst, ◌∙◌, arith, length-set}
 use Rattle.std.proofs.lemmas.List.Sums.{sum_by-set}
 use Rattle.std.proofs.lemmas.List.{length_push}
-use Rattle.std.specs.Prelude.{count_by, cond}
+use Rattle.std.specs.Prelude.{cond}
 use Rattle.std.specs.Option.{option_to_list}
 use Rattle.gv_arena.specs.Numbers.{AreFree}
 use Rattle.gv_arena.proofs.FreeNumbers.{one_given, given_within, given_unmarked}
@@ -23,4 +23,5 @@ invariant_of-self c =
       live = omega (arith, counts, was, c.self.invariant.live);
       all = omega (arith, one_less, c.self.invariant.all, length-set marks n true);
       room = omega (arith, length-set marks n true, c.self.invariant.room, c.pop.ensures.capacity);
-      small = omega (arith, length-set marks n true, c.self.invariant.small) }
+      small = omega (arith, length-set marks n true, c.self.invariant.small);
+    }

@@ -1,5 +1,5 @@
 -- The row is read before it is written, so that both pages may be one.
-use Rattle.std.proofs.Common.{ℕ, ◌<◌, ◌/◌, ◌%◌, List, Some, None, length, get_or, set, arith, subst, sym, ap, ◌∙◌}
+use Rattle.std.proofs.Common.{ℕ, ◌/◌, ◌%◌, List, Some, None, get_or, set, arith, subst, sym, ap, ◌∙◌}
 use Rattle.std.specs.Prelude.{IsSome}
 use Rattle.gv_arena.specs.Contents.{words_or_none}
 use Rattle.gv_arena.specs.Rows.{row_copied, IsRowCopied}

@@ -1,4 +1,4 @@
-use Rattle.std.proofs.Common.{◌<◌, ◌/◌, List, None, length, get_or, set, arith, subst, sym, ap, ◌∙◌}
+use Rattle.std.proofs.Common.{◌/◌, List, None, set, arith, subst, sym, ap, ◌∙◌}
 use Rattle.std.specs.Prelude.{IsSome}
 use Rattle.gv_arena.specs.Store.{Place, joined}
 use Rattle.gv_arena.proofs.Joined.{some_within, chunk_within, place_is, chunk_set, chunks_kept}

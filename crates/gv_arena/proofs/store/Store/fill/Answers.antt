@@ -1,5 +1,4 @@
-use Rattle.std.proofs.Common.{◌<◌, ◌/◌, List, Some, None, length, get_or, set, arith, subst, sym, ap, ◌∙◌}
-use Rattle.std.specs.Prelude.{IsSome}
+use Rattle.std.proofs.Common.{◌/◌, List, Some, set, arith, ap, ◌∙◌}
 use Rattle.gv_arena.specs.Store.{Place, joined}
 use Rattle.gv_arena.proofs.Joined.{chunk_within, place_is, chunk_set, chunks_kept, chunk_long}
 use Rattle.gv_types.specs.Memory.{zero_words}

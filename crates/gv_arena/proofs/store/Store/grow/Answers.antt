@@ -1,5 +1,5 @@
 -- Chunk after chunk of empty places comes after those that were there.
-use Rattle.std.proofs.Common.{◌≡◌, ◌+◌, ◌*◌, ◌<◌, ◌≤◌, ◌++◌, ◌∷◌, [], List, length, arith, ap, sym, ◌∙◌}
+use Rattle.std.proofs.Common.{◌≡◌, ◌++◌, List, length, arith, ap, ◌∙◌}
 use Rattle.gv_arena.specs.Store.{Place, joined, no_pages}
 use Rattle.gv_arena.proofs.Joined.{length-joined, joined_push, chunks_push}
 use Rattle.gv_arena.proofs.Longer.{length-no_pages, longer_same, longer_length, longer_more}
@@ -10,7 +10,8 @@ loop-self-init c = record {
   chunks = c.self.invariant;
   longer = longer_same (joined c.self.inside.chunks.items);
   grown = omega arith;
-  within = omega (arith, ap length c.self.view_is, c.requires.1) }
+  within = omega (arith, ap length c.self.view_is, c.requires.1);
+}
 
 pub overflow_mul-len : goal.overflow_mul-len
 overflow_mul-len c =
@@ -33,7 +34,8 @@ loop-self-preserved c =
       chunks = rw now (chunks_push chunks.items chunk inv.chunks long);
       longer = longer_more first (joined chunks.items) last 64 more inv.longer inv.grown;
       grown = omega (arith, count, inv.grown);
-      within = omega (arith, count, fewer, c.loop-self-test.true, c.len.ensures, chunks.ok.0, c.requires.0) }
+      within = omega (arith, count, fewer, c.loop-self-test.true, c.len.ensures, chunks.ok.0, c.requires.0);
+    }
 
 pub returns-clause-ok : goal.returns-clause-ok
 returns-clause-ok c =

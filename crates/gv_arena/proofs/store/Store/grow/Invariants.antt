@@ -7,7 +7,8 @@ invariant-loop-self l = record {
   chunks : AreChunks l.self-inside.chunks.items;
   longer : IsLonger (joined l.initial.self-inside.chunks.items) (joined l.self-inside.chunks.items);
   grown : length (joined l.initial.self-inside.chunks.items) ≤ length (joined l.self-inside.chunks.items);
-  within : length (joined l.self-inside.chunks.items) ≤ 131072 }
+  within : length (joined l.self-inside.chunks.items) ≤ 131072;
+}
 
 abbrev pub decreases-loop-self : goal.decreases-loop-self
 decreases-loop-self l = 131072 - length l.self-inside.chunks.items * 64

@@ -1,4 +1,4 @@
-use Rattle.std.proofs.Common.{◌<◌, None, length, get_or, arith, subst, sym, ◌∙◌}
+use Rattle.std.proofs.Common.{arith, subst, sym, ◌∙◌}
 use Rattle.std.specs.Prelude.{IsSome}
 use Rattle.gv_arena.proofs.Joined.{some_within, chunk_within, place_is}
 use Rattle.gv_arena.proofs.store.Store.page.Goals as goal

@@ -1,4 +1,4 @@
-use Rattle.std.proofs.Common.{◌<◌, ◌/◌, ◌%◌, List, Some, None, length, get_or, set, arith, subst, sym, ap, ◌∙◌}
+use Rattle.std.proofs.Common.{◌/◌, ◌%◌, List, Some, None, get_or, set, arith, subst, sym, ap, ◌∙◌}
 use Rattle.std.specs.Prelude.{IsSome}
 use Rattle.gv_arena.specs.Contents.{words_or_none}
 use Rattle.gv_arena.specs.Store.{Place, joined}
