@@ -1,4 +1,4 @@
-ghost use Rattle.std.specs.Prelude.{◌≡◌, ◌+◌, ◌<◌, ◌≤◌, Some, None, length, slice_index, slice_set, IfOk, IsOk, OnOk, OnErr, IsSome};
+ghost use Rattle.std.specs.Prelude.{◌≡◌, ◌+◌, ◌<◌, ◌≤◌, Some, None, length, slice_index, slice_set, IfOk, IsOk, OnOk, OnErr, IsSome, IsTrue};
 ghost use Rattle.gv_types.specs.Memory.{zero_words};
 ghost use Rattle.gv_arena.specs.Contents.{nothing, words_at, words_of, is_live, live, with_page};
 ghost use Rattle.gv_arena.specs.Rows.{row_copied, IsRowCopied};
@@ -144,7 +144,8 @@ impl Arena {
 
     /// Whether the page is live.
     pub fn is_live(&self, page: u64) -> bool
-        ensures { result ≡ is_live self.now page }
+        ensures live { result ≡ is_live self.now page }
+        ensures within { IsTrue result → page < 131072 }
     {
         self.numbers.is_live(page as usize)
     }
