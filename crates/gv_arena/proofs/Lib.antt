@@ -1,0 +1,14 @@
+pub mod Added
+pub mod Bytes
+pub mod Fields
+pub mod Filled
+pub mod FreeNumbers
+pub mod Joined
+pub mod Longer
+pub mod Marked
+pub mod Memory
+pub mod OnAny
+pub mod Overwriting
+pub mod Padding
+pub mod PageBytes
+pub mod Sharing
