@@ -1,5 +1,5 @@
 -- How a command is kept, and what is at the front of a list of dwords.
-use Rattle.std.proofs.Common.{◌≡◌, ℕ, ◌+◌, ◌-◌, ◌<◌, ◌≤◌, Bool, true, false, ◌&&◌, List, [], ◌∷◌, ◌++◌, length, take, get_or, replicate, is_some, Option, Some, None, Ok, Err, cond, refl, ap, sym, ◌∙◌, subst, arith, leb, length-append}
+use Rattle.std.proofs.Common.{◌≡◌, ℕ, ◌-◌, ◌≤◌, Bool, true, ◌&&◌, List, ◌++◌, length, take, get_or, replicate, is_some, Some, Ok, Err, cond, ap, sym, ◌∙◌, subst, arith, leb, length-append}
 use Rattle.std.proofs.Math.Seq.{take-append_seam}
 use Rattle.std.proofs.Math.ListN.{get_or-append}
 use Rattle.std.proofs.lemmas.List.{get_or-take, length-take}
@@ -41,7 +41,7 @@ module _ (ws : List ℕ) (n : ℕ) (named : length_of (get_or ws 0 0) ≡ Some n
   }
 
   pub decoded_is : decoded ws ≡ Ok (take n ws, n)
-  decoded_is = ap (λ o. front o ws) named ∙ ap (λ b. cond b (Ok (take n ws, n)) (Err record { })) (both n (length ws) (is_some (kind_of (take n ws))) within fits)
+  decoded_is = ap (λ o. front o ws) named ∙ ap (λ b. cond b (Ok (take n ws, n)) (Err record {})) (both n (length ws) (is_some (kind_of (take n ws))) within fits)
 
 -- a command stands for itself, whatever follows
 pub decoded-append : (ws rest : List ℕ) → 1 ≤ length ws → IsCommand ws → decoded (ws ++ rest) ≡ Ok (ws, length ws)

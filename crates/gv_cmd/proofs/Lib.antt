@@ -1,3 +1,5 @@
 pub mod Padding
 pub mod Starts
 pub mod Keeping
+pub mod Simulation
+pub mod Alignment

@@ -1,8 +1,8 @@
 -- What is known of a command that starts a batch.
 use Rattle.std.proofs.Common.{◌≡◌, ℕ, ◌+◌, Bool, true, false, List, [], ◌∷◌, length, get_or, is_some, Option, Some, None, cond, eqb, refl, ap, sym, ◌∙◌}
 use Rattle.std.proofs.lemmas.Bool.{eqb-true}
-use Rattle.gv_cmd.specs.Bits.{bit, bits}
-use Rattle.gv_cmd.specs.Table.{exactly, interface_length, blit_length, length_of, pipe_control, batch_start, interface_kind, colour_blit, copy_blit, blit_kind, kind_of_header, kind_of}
+use Rattle.gv_cmd.specs.Bits.{bits}
+use Rattle.gv_cmd.specs.Table.{exactly, interface_length, blit_length, length_of, pipe_control, batch_start, interface_kind, blit_kind, kind_of_header, kind_of}
 use Rattle.gv_cmd.specs.Command.{IsCommand}
 use Rattle.gv_cmd.specs.declared.kind.Kind.{Kind}
 use Rattle.gv_cmd.specs.declared.kind.Kind.TheVariants.{BatchStart}

@@ -1,6 +1,5 @@
 -- A command is a list of dwords that is one row of the command table, whole.
-use Rattle.std.specs.Prelude.{ℕ, ◌≡◌, ◌+◌, ◌*◌, ◌<◌, ◌≤◌, ◌&&◌, nat_le, true, false, Bool, List, [], ◌∷◌, length, take, slice_index, slice_set, if◌then◌else◌, Option, None, Some, Result, Ok, Err, is_some}
-use Rattle.gv_cmd.specs.Bits.{register}
+use Rattle.std.specs.Prelude.{ℕ, ◌≡◌, ◌≤◌, ◌&&◌, nat_le, true, false, List, [], ◌∷◌, length, take, slice_index, if◌then◌else◌, Option, None, Some, Result, Ok, Err, is_some}
 use Rattle.gv_cmd.specs.Table.{length_of, kind_of}
 use Rattle.gv_cmd.specs.declared.command.Unlisted.{Unlisted}
 use Rattle.gv_cmd.specs.declared.kind.Kind.{Kind}
@@ -12,8 +11,8 @@ pub record IsCommand (ws : List ℕ) : Type 0 where
 
 -- the command at the front and its length, where the header names that length
 abbrev pub front : Option ℕ → List ℕ → Result (List ℕ × ℕ) Unlisted
-front None ws = Err record { }
-front (Some n) ws = if nat_le n (length ws) && is_some (kind_of (take n ws)) then Ok (take n ws, n) else Err record { }
+front None ws = Err record {}
+front (Some n) ws = if nat_le n (length ws) && is_some (kind_of (take n ws)) then Ok (take n ws, n) else Err record {}
 
 -- decoding: the command at the front of a list of dwords and its length, or that no row fits
 abbrev pub decoded : List ℕ → Result (List ℕ × ℕ) Unlisted

@@ -1,5 +1,5 @@
 -- How a command is kept: its dwords in a row of 65 with zeros after them, and their number.
-use Rattle.std.specs.Prelude.{ℕ, ◌≡◌, List, length, take}
+use Rattle.std.specs.Prelude.{◌≡◌, length, take}
 use Rattle.std.proofs.Common.{sym}
 use Rattle.gv_cmd.specs.Padded.{padded}
 use Rattle.gv_cmd.specs.Command.{IsCommand}

@@ -1,9 +1,9 @@
 -- Which lengths and fields the command table can give.
-use Rattle.std.specs.Prelude.{ℕ, ◌≡◌, ◌+◌, ◌*◌, ◌%◌, ◌^◌, ◌<◌, ◌≤◌, ◌==◌, ◌||◌, Bool, true, List, Option, None, Some}
+use Rattle.std.specs.Prelude.{ℕ, ◌≡◌, ◌%◌, ◌^◌, ◌<◌, ◌≤◌, ◌==◌, ◌||◌, true, List, Option, None, Some}
 use Rattle.gv_cmd.specs.declared.blit.Blit.{Blit}
 use Rattle.gv_cmd.specs.declared.kind.PostWrite.{PostWrite}
 use Rattle.gv_cmd.specs.declared.kind.Kind.{Kind}
-use Rattle.gv_cmd.specs.declared.kind.Kind.TheVariants.{Noop, UserInterrupt, ArbCheck, ArbOnOff, BatchEnd, SemaphoreWait, Store, LoadRegisters, StoreRegister, LoadRegister, MoveRegister, CopyMemory, Flush, PipeControl, BatchStart, ColourBlit, CopyBlit}
+use Rattle.gv_cmd.specs.declared.kind.Kind.TheVariants.{SemaphoreWait, Store, LoadRegisters, StoreRegister, LoadRegister, MoveRegister, CopyMemory, Flush, PipeControl, BatchStart, ColourBlit, CopyBlit}
 use Rattle.gv_cmd.specs.Table.{pair_count}
 
 abbrev pub IsLength : ℕ → Type 0

@@ -4,3 +4,7 @@ pub mod Kind
 pub mod Command
 pub mod Padded
 pub mod Kept
+pub mod Allowed
+pub mod Rows
+pub mod Effect
+pub mod Simulation

@@ -1,9 +1,8 @@
 -- The command table: which headers are listed, with how many dwords, and what the fields of each row
 -- are. A command is the list of its dwords, the header first.
-use Rattle.std.specs.Prelude.{ℕ, ◌+◌, ◌-◌, ◌*◌, ◌/◌, ◌%◌, ◌==◌, ◌&&◌, ◌||◌, not, nat_le, nat_lt, Bool, List, length, take, slice_index, if◌then◌else◌, Option, None, Some, Result, Ok, Err, is_some}
+use Rattle.std.specs.Prelude.{ℕ, ◌+◌, ◌-◌, ◌/◌, ◌==◌, ◌&&◌, ◌||◌, not, nat_le, nat_lt, Bool, List, length, slice_index, if◌then◌else◌, Option, None, Some}
 use Rattle.gv_cmd.specs.Bits.{bit, bits, register, byte_address, dword_address, quadword_address}
 use Rattle.gv_cmd.specs.declared.blit.Blit.{Blit}
-use Rattle.gv_cmd.specs.declared.kind.PostWrite.{PostWrite}
 use Rattle.gv_cmd.specs.declared.kind.Kind.{Kind}
 use Rattle.gv_cmd.specs.declared.kind.Kind.TheVariants.{Noop, UserInterrupt, ArbCheck, ArbOnOff, BatchEnd, SemaphoreWait, Store, LoadRegisters, StoreRegister, LoadRegister, MoveRegister, CopyMemory, Flush, PipeControl, BatchStart, ColourBlit, CopyBlit}
 
@@ -90,24 +89,26 @@ copy_memory ws = CopyMemory (bit (slice_index ws 0) 22) (dword_address ws 3) (bi
 -- globally.
 abbrev pub flush : List ℕ → Kind
 flush ws = Flush (if bits (slice_index ws 0) 15 14 == 1 then Some record {
-    global = bit (slice_index ws 1) 2;
-    at = quadword_address ws 1;
-    low = slice_index ws 3;
-    high = if bits (slice_index ws 0) 5 0 == 3 then Some (slice_index ws 4) else None;
-  } else None)
+  global = bit (slice_index ws 1) 2;
+  at = quadword_address ws 1;
+  low = slice_index ws 3;
+  high = if bits (slice_index ws 0) 5 0 == 3 then Some (slice_index ws 4) else None;
+} else None)
 
--- Of the flags, bits 15..14 say whether PIPE_CONTROL writes (2 and 3 are unlisted), bit 24 whether
--- globally, bit 8 whether it notifies. Bit 21 is unlisted.
+-- Of the flags, bits 15..14 say whether PIPE_CONTROL writes, bit 24 whether globally, bit 8 whether it
+-- notifies.
+abbrev pub pipe_fields : List ℕ → Kind
+pipe_fields ws = PipeControl (bit (slice_index ws 1) 8) (if bits (slice_index ws 1) 15 14 == 1 then Some record {
+  global = bit (slice_index ws 1) 24;
+  at = quadword_address ws 2;
+  low = slice_index ws 4;
+  high = Some (slice_index ws 5);
+} else None)
+
+-- flags with 2 or 3 in bits 15..14, or with bit 21, are unlisted
 abbrev pub pipe_control : List ℕ → Option Kind
 pipe_control ws =
-    if nat_lt (bits (slice_index ws 1) 15 14) 2 && not (bit (slice_index ws 1) 21)
-    then Some (PipeControl (bit (slice_index ws 1) 8) (if bits (slice_index ws 1) 15 14 == 1 then Some record {
-        global = bit (slice_index ws 1) 24;
-        at = quadword_address ws 2;
-        low = slice_index ws 4;
-        high = Some (slice_index ws 5);
-      } else None))
-    else None
+    if nat_lt (bits (slice_index ws 1) 15 14) 2 && not (bit (slice_index ws 1) 21) then Some (pipe_fields ws) else None
 
 abbrev pub batch_start : List ℕ → Kind
 batch_start ws = BatchStart (bit (slice_index ws 0) 8) (bit (slice_index ws 0) 22) (dword_address ws 1)

@@ -16,3 +16,12 @@ pub struct Blit {
     pub from_x: u16,
     pub from_y: u16,
 }
+
+/// One row of a blit: the byte addresses, below 2^48, at which it begins in the destination and in
+/// the source, and how many bytes it has. Of a colour blit's row `from` is 0 and means nothing.
+#[derive(Clone, Copy, Debug, PartialEq, Eq)]
+pub struct RowPair {
+    pub to: u64,
+    pub from: u64,
+    pub bytes: u32,
+}

@@ -5,13 +5,12 @@ ghost use Rattle.gv_cmd.specs.Table.{pair_count, kind_of};
 ghost use Rattle.gv_cmd.specs.Kind.{IsKindOf};
 ghost use Rattle.gv_cmd.specs.Command.{IsCommand, IsFront, decoded, shape_of};
 
-use std::error::Error;
-use std::fmt;
-use std::marker::Model;
-
 use crate::Kind;
 use crate::header::length;
 use crate::rows::{dword, kind_of, register};
+use std::error::Error;
+use std::fmt;
+use std::marker::Model;
 
 /// No row of the command table fits the front of the dwords.
 #[derive(Clone, Copy, Debug, PartialEq, Eq)]
@@ -139,3 +138,6 @@ impl Command {
         }
     }
 }
+
+#[cfg(test)]
+mod tests;

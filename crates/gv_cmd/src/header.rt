@@ -8,22 +8,36 @@ pub(crate) const PIPE_CONTROL: u32 = 0x7a00_0004;
 
 // Opcodes of memory-interface commands.
 pub(crate) const NOOP: u32 = 0x00;
+
 pub(crate) const USER_INTERRUPT: u32 = 0x02;
+
 pub(crate) const ARB_CHECK: u32 = 0x05;
+
 pub(crate) const ARB_ON_OFF: u32 = 0x08;
+
 pub(crate) const BATCH_BUFFER_END: u32 = 0x0a;
+
 pub(crate) const SEMAPHORE_WAIT: u32 = 0x1c;
+
 pub(crate) const STORE_DATA_IMM: u32 = 0x20;
+
 pub(crate) const LOAD_REGISTER_IMM: u32 = 0x22;
+
 pub(crate) const STORE_REGISTER_MEM: u32 = 0x24;
+
 pub(crate) const FLUSH_DW: u32 = 0x26;
+
 pub(crate) const LOAD_REGISTER_MEM: u32 = 0x29;
+
 pub(crate) const LOAD_REGISTER_REG: u32 = 0x2a;
+
 pub(crate) const COPY_MEM_MEM: u32 = 0x2e;
+
 pub(crate) const BATCH_BUFFER_START: u32 = 0x31;
 
 // Opcodes of blits.
 pub(crate) const XY_COLOR_BLT: u32 = 0x50;
+
 pub(crate) const XY_SRC_COPY_BLT: u32 = 0x53;
 
 pub(crate) fn bit(dword: u32, n: u8) -> bool

@@ -6,10 +6,13 @@ mod blit;
 mod command;
 mod header;
 mod kind;
-
 mod rows;
+mod space;
+mod stands;
 
-pub use blit::Blit;
+pub use blit::{Blit, RowPair};
 pub use command::{Command, Unlisted, decode};
-pub use kind::{Kind, PostWrite};
 pub use header::length;
+pub use kind::{Kind, PostWrite};
+pub use space::SpaceMeaning;
+pub use stands::{Stands, allowed};

@@ -1,4 +1,4 @@
-use Rattle.std.proofs.Common.{ap, sym, subst, get_or, [], ◌∷◌}
+use Rattle.std.proofs.Common.{sym, subst, get_or, [], ◌∷◌}
 use Rattle.gv_cmd.specs.Command.{IsCommand}
 use Rattle.gv_cmd.proofs.Starts.{shape_command}
 use Rattle.gv_cmd.proofs.command.Command.shape.Goals as goal
