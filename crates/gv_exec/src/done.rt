@@ -33,3 +33,6 @@ pub fn run<S: Space>(command: &Command, engine: EngineId, privileged: bool, spac
     }
     perform(command, kind, engine.0, space)
 }
+
+#[cfg(test)]
+mod tests;
