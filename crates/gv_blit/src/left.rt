@@ -2,9 +2,8 @@ ghost use Rattle.std.specs.Prelude.{◌≡◌, ◌≤◌};
 ghost use Rattle.gv_cmd.specs.Kind.{IsBlit};
 ghost use Rattle.gv_cmd.specs.Rows.{row, rows};
 
-use std::marker::Model;
-
 use gv_cmd::{Blit, RowPair};
+use std::marker::Model;
 
 /// Addresses count modulo 2^48.
 const ADDRESS: u64 = 0xffff_ffff_ffff;

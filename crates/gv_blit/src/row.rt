@@ -16,7 +16,6 @@ pub fn rows(blit: &Blit) -> Rows
     Rows::new(blit)
 }
 
-
 #[cfg(test)]
 mod tests {
     use crate::{RowPair, rows};

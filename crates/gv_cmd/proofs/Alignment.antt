@@ -1,15 +1,13 @@
 -- Each dword that a listed command loads or stores is at a multiple of 4.
-use Rattle.std.proofs.Common.{◌≡◌, ℕ, ◌+◌, ◌*◌, ◌/◌, ◌%◌, ◌^◌, Bool, true, false, List, get_or, Option, None, Some, cond, eqb, arith}
+use Rattle.std.proofs.Common.{◌≡◌, ℕ, ◌+◌, ◌*◌, ◌/◌, ◌%◌, ◌^◌, ◌&&◌, not, Bool, true, false, List, [], get_or, Option, None, Some, cond, eqb, arith}
 use Rattle.std.specs.Prelude.{IfSome}
 use Rattle.gv_cmd.specs.Bits.{bits, dword_address, quadword_address}
 use Rattle.gv_cmd.specs.Table.{pipe_fields, pipe_control, colour_fields, copy_fields, colour_blit, copy_blit, interface_kind, blit_kind, kind_of}
-use Rattle.gv_cmd.specs.Simulation.{Access, dwords_at, post_accesses, accesses, EachAccess}
+use Rattle.gv_cmd.specs.Simulation.{Access, IsAligned, AccessesAreAligned, dwords_at, post_accesses, accesses, EachAccess, MayDo}
+use Rattle.gv_cmd.specs.Effect.{is_skipped}
 use Rattle.gv_cmd.specs.declared.kind.PostWrite.{PostWrite}
 use Rattle.gv_cmd.specs.declared.kind.Kind.{Kind}
 use Rattle.gv_cmd.specs.declared.kind.Kind.TheVariants.{ColourBlit, CopyBlit}
-
-abbrev pub IsAligned : Access → Type 0
-IsAligned a = a.at % 4 ≡ 0
 
 abbrev AreAligned : Kind → Type 0
 AreAligned kind = EachAccess IsAligned (accesses kind)
@@ -67,3 +65,14 @@ accesses-aligned ws =
     by_if (eqb h 0x7A000004) (pipe_control ws) _ (where_fits _ (pipe_fields ws) (post _ _ (quadword_aligned ws 2))) (
     by_if (eqb (bits h 31 29) 0) _ _ (interface_aligned (bits h 28 23) ws) (
     by_if (eqb (bits h 31 29) 2) _ _ (blit_aligned (bits h 28 22) ws) tt))
+
+unless_skipped : (b : Bool) (xs : List Access) → EachAccess IsAligned xs → EachAccess IsAligned (cond b [] xs)
+unless_skipped true xs h = tt
+unless_skipped false xs h = h
+
+by_kind : (engine : ℕ) (privileged : Bool) (kind : Option Kind) → IfSome kind AreAligned → MayDo IsAligned engine privileged kind
+by_kind engine privileged None h = tt
+by_kind engine privileged (Some kind) h = unless_skipped (not privileged && is_skipped engine kind) (accesses kind) h
+
+pub accesses_are_aligned : AccessesAreAligned
+accesses_are_aligned ws engine privileged = by_kind engine privileged (kind_of ws) (accesses-aligned ws)

@@ -3,3 +3,4 @@ pub mod Starts
 pub mod Keeping
 pub mod Simulation
 pub mod Alignment
+pub mod Local

@@ -120,3 +120,13 @@ module _ {A B : Type 0} (a : Operations A) (b : Operations B) (Same : A → B �
 
   pub effects_agree : EffectsAgree a b Same May
   effects_agree ws engine privileged x y same may = by_kind ws engine x y same privileged (kind_of ws) may
+
+-- accesses that may be made for two reasons
+module _ (May Might : Access → Type 0) where
+  each_both : (xs : List Access) → EachAccess May xs → EachAccess Might xs → EachAccess (λ a. May a × Might a) xs
+  each_both [] p q = tt
+  each_both (a ∷ xs) p q = ((p.0, q.0), each_both xs p.1 q.1)
+
+  pub MayDo-both : (engine : ℕ) (privileged : Bool) (kind : Option Kind) → MayDo May engine privileged kind → MayDo Might engine privileged kind → MayDo (λ a. May a × Might a) engine privileged kind
+  MayDo-both engine privileged None p q = tt
+  MayDo-both engine privileged (Some kind) p q = each_both _ p q

@@ -1,5 +1,5 @@
 -- Two spaces that agree in their operations agree in every command.
-use Rattle.std.specs.Prelude.{ℕ, ◌≡◌, ◌+◌, ◌<◌, ◌&&◌, not, Bool, List, [], ◌∷◌, Option, None, Some, if◌then◌else◌}
+use Rattle.std.specs.Prelude.{ℕ, ◌≡◌, ◌+◌, ◌%◌, ◌<◌, ◌&&◌, not, Bool, false, List, [], ◌∷◌, Option, None, Some, if◌then◌else◌}
 use Rattle.gv_cmd.specs.Table.{kind_of}
 use Rattle.gv_cmd.specs.Effect.{Operations, Effect, is_skipped, effect}
 use Rattle.gv_cmd.specs.declared.kind.PostWrite.{PostWrite}
@@ -63,3 +63,19 @@ abbrev pub EffectsAgree : {A B : Type 0} → Operations A → Operations B → (
 EffectsAgree {A} {B} a b Same May =
     (ws : List ℕ) (engine : ℕ) (privileged : Bool) (x : A) (y : B) → Same x y → MayDo May engine privileged (kind_of ws)
     → SameEffect Same (effect a ws engine privileged x) (effect b ws engine privileged y)
+
+-- an access of the per-process space
+abbrev pub IsLocal : Access → Type 0
+IsLocal a = a.global ≡ false
+
+-- an access at a multiple of 4
+abbrev pub IsAligned : Access → Type 0
+IsAligned a = a.at % 4 ≡ 0
+
+-- no command of a live batch accesses the global space
+abbrev pub LiveIsLocal : Type 0
+LiveIsLocal = (ws : List ℕ) (engine : ℕ) → MayDo IsLocal engine false (kind_of ws)
+
+-- every access of a command is at a multiple of 4
+abbrev pub AccessesAreAligned : Type 0
+AccessesAreAligned = (ws : List ℕ) (engine : ℕ) (privileged : Bool) → MayDo IsAligned engine privileged (kind_of ws)
