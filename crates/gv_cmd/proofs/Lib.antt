@@ -4,3 +4,4 @@ pub mod Keeping
 pub mod Simulation
 pub mod Alignment
 pub mod Local
+pub mod Lengths

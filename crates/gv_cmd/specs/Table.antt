@@ -20,7 +20,7 @@ semaphore_length h = if bit h 15 && nat_lt (bits h 14 12) 6 then exactly 4 (bits
 abbrev pub store_length : ℕ → Option ℕ
 store_length h = if bit h 21 then exactly 5 (bits h 9 0) else exactly 4 (bits h 9 0)
 
--- LOAD_REGISTER_IMM: 1 + 2 * n dwords, n from 1 to 32
+-- LOAD_REGISTER_IMM: 1 + 2 * n dwords, n from 1 to 32, so that the length field is odd and below 64
 abbrev pub load_registers_length : ℕ → Option ℕ
 load_registers_length h = if bit h 0 && nat_le (bits h 7 0 + 2) 65 then Some (bits h 7 0 + 2) else None
 
