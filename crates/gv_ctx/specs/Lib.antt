@@ -1,0 +1,3 @@
+pub mod Descriptor
+pub mod Image
+pub mod Saved

@@ -1,6 +1,11 @@
-//! Execlist contexts: the place of an element at work.
+//! Execlist contexts: a descriptor's fields, the register state of a context's image, and the place
+//! of an element at work with its seven dwords in a shadow image. None of the calls takes memory.
 #![tactic(auto)]
 
+mod descriptor;
+mod image;
 mod saved;
 
+pub use descriptor::Descriptor;
+pub use image::{BadContext, Image};
 pub use saved::{Batch, Saved};

@@ -1,0 +1,10 @@
+pub mod Bits
+pub mod Table
+pub mod Kind
+pub mod Command
+pub mod Padded
+pub mod Kept
+pub mod Allowed
+pub mod Rows
+pub mod Effect
+pub mod Simulation
