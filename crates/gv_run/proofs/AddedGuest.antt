@@ -1,12 +1,12 @@
 -- One more guest.
-use Rattle.std.proofs.Common.{◌≡◌, ◌≢◌, ℕ, ◌+◌, ◌<◌, ◌≤◌, List, [], ◌∷◌, ◌++◌, length, get_or, map, ap, sym, ◌∙◌, ⊎_elim, subst, arith, refl}
+use Rattle.std.proofs.Common.{◌≡◌, ◌≢◌, ℕ, ◌+◌, ◌<◌, ◌≤◌, List, [], ◌∷◌, ◌++◌, length, get_or, ap, sym, ◌∙◌, ⊎_elim, subst, arith, refl}
 use Rattle.std.proofs.lemmas.List.{same_lists, length-map, get_or-map, get_or_default, map_push}
 use Rattle.std.proofs.lemmas.Bool.{cases_eq}
 use Rattle.std.proofs.lemmas.Grind.{common_steps}
 use Rattle.gv_gpu.specs.Device.{Device}
 use Rattle.gv_gpu.specs.Part.{outside, frames_part}
 use Rattle.gv_guest.specs.Placed.{Placed, Stands, nowhere}
-use Rattle.gv_run.specs.Device.{PrivateDevice, new_device}
+use Rattle.gv_run.specs.Device.{PrivateDevice}
 use Rattle.gv_run.specs.Tied.{Ties, device_in, machine_in}
 use Rattle.gv_run.proofs.OneGuest.{stands-others, device-others}
 

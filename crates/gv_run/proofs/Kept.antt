@@ -1,10 +1,9 @@
 -- Guests that stand are those of the machine that their pages hold.
-use Rattle.std.proofs.Common.{◌≡◌, ℕ, ◌<◌, List, length, get_or, ap, sym, ◌∙◌, subst, refl}
+use Rattle.std.proofs.Common.{◌≡◌, ◌<◌, List, length, get_or, ap, sym, subst}
 use Rattle.std.proofs.lemmas.List.{length-map, get_or_default}
 use Rattle.gv_gpu.specs.Device.{Device}
-use Rattle.gv_guest.specs.Placed.{Placed, Stands, nowhere, memory_in}
+use Rattle.gv_guest.specs.Placed.{Placed, Stands, nowhere}
 use Rattle.gv_run.specs.Device.{PrivateDevice}
-use Rattle.gv_run.specs.Machine.{Machine}
 use Rattle.gv_run.specs.Tied.{Ties, Keeps, machine_in}
 use Rattle.gv_run.proofs.OneGuest.{device-there}
 

@@ -1,5 +1,5 @@
 -- The memory of one guest, of those that are said.
-use Rattle.std.proofs.Common.{◌≡◌, ℕ, ◌+◌, ◌<◌, ◌≤◌, List, [], ◌∷◌, ◌++◌, length, get_or, drop, ap, sym, ◌∙◌}
+use Rattle.std.proofs.Common.{◌≡◌, ℕ, ◌+◌, ◌<◌, ◌≤◌, List, [], ◌++◌, length, get_or, drop, ap, sym, ◌∙◌}
 use Rattle.std.proofs.lemmas.List.{at_drop_more, length-map, drop_all}
 use Rattle.gv_gpu.specs.Device.{Device}
 use Rattle.gv_guest.specs.Placed.{Placed, memory_in}

@@ -1,13 +1,13 @@
 -- An access of one guest, seen by all.
-use Rattle.std.proofs.Common.{◌≡◌, ◌≢◌, ℕ, ◌<◌, ◌≤◌, Bool, true, false, not, ◌&&◌, List, Option, None, Some, length, get_or, set, map, ap, sym, ◌∙◌, ⊎_elim, subst, arith, eqb, refl}
+use Rattle.std.proofs.Common.{◌≡◌, ◌≢◌, ℕ, ◌<◌, ◌≤◌, true, false, List, Option, None, Some, length, get_or, set, ap, sym, ◌∙◌, ⊎_elim, subst, arith, refl}
 use Rattle.std.proofs.lemmas.List.{same_lists, length-map, length-set, get_or-map, get_or-set_same, get_or-set_other, get_or_default, set-get_or}
 use Rattle.std.proofs.lemmas.Bool.{cases_eq}
 use Rattle.std.proofs.lemmas.Bool.Decides.{nat_tests}
 use Rattle.gv_types.specs.declared.ids.Label.{Label}
 use Rattle.gv_gpu.specs.Device.{Device}
-use Rattle.gv_gpu.specs.Part.{Part, Apart, Within, inside, outside, frames_part, is_frame_of}
+use Rattle.gv_gpu.specs.Part.{Apart, Within, inside, outside, frames_part, is_frame_of}
 use Rattle.gv_gpu.proofs.Parts.{inside-kept, outside-widen}
-use Rattle.gv_guest.specs.Placed.{Placed, Stands, memory_in, nowhere}
+use Rattle.gv_guest.specs.Placed.{Placed, Stands, nowhere}
 use Rattle.gv_guest.proofs.Kept.{stands-kept, memory-kept}
 use Rattle.gv_guest.proofs.Written.{own_frame}
 use Rattle.gv_run.specs.Device.{PrivateDevice, new_device}

@@ -15,7 +15,6 @@ use Rattle.gv_text.specs.declared.ending.Ending.TheVariants.{Done, BadScript, To
 use Rattle.gv_text.specs.declared.report_line.ReportLine.{ReportLine}
 use Rattle.gv_text.specs.declared.report_line.ReportLine.TheVariants as said
 use Rattle.gv_text.specs.declared.script_line.Line.{Line}
-use Rattle.gv_run.specs.Device.{PrivateDevice}
 use Rattle.gv_run.specs.Machine.{Machine, machine_after, machine_reply, events_of, line_after, run_lines, lines_commands}
 
 -- what an event's answer is told as: a read tells its value

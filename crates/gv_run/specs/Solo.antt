@@ -1,9 +1,8 @@
 -- What one guest is told: the report of its own private device, run on its own events.
-use Rattle.std.specs.Prelude.{ℕ, List, [], ◌∷◌, ◌++◌, Bool, true, false, if◌then◌else◌, ◌==◌, filter, slice_index_or}
+use Rattle.std.specs.Prelude.{ℕ, List, [], ◌∷◌, ◌++◌, Bool, true, false, if◌then◌else◌, ◌==◌, filter}
 use Rattle.std.specs.List.{flat_map}
 use Rattle.gv_types.specs.declared.event.Event.{Event}
 use Rattle.gv_text.specs.Report.{text_of}
-use Rattle.gv_text.specs.Script.{script_of}
 use Rattle.gv_text.specs.declared.ending.Ending.{Ending}
 use Rattle.gv_text.specs.declared.ending.Ending.TheVariants.{Done}
 use Rattle.gv_text.specs.declared.report_line.ReportLine.{ReportLine}

@@ -1,5 +1,7 @@
 //! Whole scripts over sources, sinks and a device in memory, with reports that were worked out by
 //! hand.
+ghost use Rattle.std.specs.Prelude.{◌<◌};
+
 use crate::{Status, mediate};
 use gv_gpu::SoftGpu;
 use gv_outside::{MemorySink, MemorySource};

@@ -1,8 +1,8 @@
-use Rattle.std.proofs.Common.{◌≡◌, ◌+◌, ℕ, List, [], take, IfSome, ap, sym, ◌∙◌, subst}
+use Rattle.std.proofs.Common.{◌≡◌, ◌+◌, ℕ, List, take, IfSome, ap, sym, ◌∙◌, subst}
 use Rattle.std.specs.Io.KnownBytes.{Appends}
 use Rattle.gv_text.specs.Script.{script_limit, script_limit-is}
 use Rattle.gv_gpu.specs.Device.{Device}
-use Rattle.gv_run.specs.Headline.{status_of, WritesPart}
+use Rattle.gv_run.specs.Headline.{status_of}
 use Rattle.gv_run.specs.Report.{report_of}
 use Rattle.gv_run.specs.Tied.{Keeps}
 use Rattle.gv_run.proofs.Isolation.{private-report, commands_in-none}

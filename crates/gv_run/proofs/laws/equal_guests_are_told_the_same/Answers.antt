@@ -1,6 +1,5 @@
 use Rattle.std.proofs.Common.{◌≡◌, ℕ, List, Bool, ap, sym, ◌∙◌}
 use Rattle.gv_types.specs.declared.event.Event.{Event}
-use Rattle.gv_run.specs.Headline.{LooksAlike}
 use Rattle.gv_run.specs.Solo.{solo}
 use Rattle.gv_run.proofs.Isolation.{private-report}
 use Rattle.gv_run.proofs.laws.equal_guests_are_told_the_same.Goals as goal

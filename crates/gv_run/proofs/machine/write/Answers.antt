@@ -1,8 +1,7 @@
 use Rattle.std.proofs.Common.{◌≡◌, sym, ap, ◌∙◌}
-use Rattle.gv_types.specs.Memory.{memory_write}
 use Rattle.gv_types.specs.declared.event.Event.TheVariants.{Write}
 use Rattle.gv_types.specs.declared.event.Place.TheVariants as places
-use Rattle.gv_run.specs.Device.{PrivateDevice, device_after}
+use Rattle.gv_run.specs.Device.{device_after}
 use Rattle.gv_run.specs.Machine.{device_at}
 use Rattle.gv_run.specs.Tied.{machine_in, device_in}
 use Rattle.gv_run.proofs.OneGuest.{ties-written, machine-written, frames-outside, device-there}

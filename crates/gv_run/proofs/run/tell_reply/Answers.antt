@@ -1,4 +1,4 @@
-use Rattle.std.proofs.Common.{◌≡◌, ◌++◌, sym, ap, ◌∙◌, subst, List, OnOk}
+use Rattle.std.proofs.Common.{◌≡◌, ◌++◌, ap, ◌∙◌, subst, List, OnOk}
 use Rattle.gv_text.specs.Report.{text_of}
 use Rattle.gv_text.specs.declared.report_line.ReportLine.{ReportLine}
 use Rattle.gv_run.proofs.Text.{said_none}

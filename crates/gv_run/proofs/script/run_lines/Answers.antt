@@ -1,5 +1,5 @@
-use Rattle.std.proofs.Common.{ap, sym, ◌∙◌, ◌≡◌, ◌+◌, arith, subst, refl}
-use Rattle.gv_text.specs.Script.{Script, script_in, missing, ends}
+use Rattle.std.proofs.Common.{sym, ◌∙◌, ◌+◌, arith, subst, refl}
+use Rattle.gv_text.specs.Script.{script_in, missing}
 use Rattle.gv_text.specs.declared.known.Known.{Known}
 use Rattle.gv_text.specs.declared.ending.Ending.TheVariants.{Done, BadScript}
 use Rattle.gv_run.specs.Tied.{machine_in}

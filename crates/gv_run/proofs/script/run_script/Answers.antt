@@ -1,5 +1,5 @@
 use Rattle.std.proofs.Common.{sym, ◌∙◌, subst}
-use Rattle.gv_text.specs.Script.{script_in, script_limit-is}
+use Rattle.gv_text.specs.Script.{script_limit-is}
 use Rattle.gv_run.specs.Tied.{Keeps}
 use Rattle.gv_run.proofs.Limit.{report_of-script, ending_of-script, machine_of-script}
 use Rattle.gv_run.proofs.script.run_script.Goals as goal

@@ -1,5 +1,4 @@
-use Rattle.std.proofs.Common.{◌≡◌, ◌++◌, [], ap, sym, ◌∙◌, subst, List, ℕ}
-use Rattle.gv_guest.specs.Placed.{Placed}
+use Rattle.std.proofs.Common.{◌≡◌, ◌++◌, [], ap, ◌∙◌, subst, List, ℕ}
 use Rattle.gv_text.specs.Report.{text_of}
 use Rattle.gv_text.specs.Script.{script_in}
 use Rattle.gv_text.specs.declared.ending.Ending.{Ending}

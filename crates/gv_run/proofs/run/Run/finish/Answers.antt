@@ -1,4 +1,4 @@
-use Rattle.std.proofs.Common.{◌≡◌, [], ◌∷◌, ◌++◌, ap, ◌∙◌, OnOk, List}
+use Rattle.std.proofs.Common.{◌≡◌, [], ◌∷◌, ◌++◌, ap, ◌∙◌, List}
 use Rattle.gv_guest.specs.Placed.{Placed}
 use Rattle.gv_text.specs.Report.{text_of}
 use Rattle.gv_text.specs.declared.report_line.ReportLine.TheVariants.{Done}
