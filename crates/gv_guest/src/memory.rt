@@ -163,3 +163,31 @@ impl Memory {
         self.set_word(gpu, number, word)
     }
 }
+
+#[cfg(test)]
+mod tests {
+    use crate::Memory;
+    use gv_gpu::SoftGpu;
+    use gv_types::{GuestId, Width};
+    use std::test::Fail;
+
+    // Two frames: the last word of the first, the first of the second, and past the end.
+    #[test]
+    fn two_frames(rt: HostRuntime) -> Result<(), Fail> {
+        let mut gpu = SoftGpu::new(rt.alloc());
+        let memory = Memory::new(rt.alloc(), &mut gpu, GuestId(0), 2)?;
+        assert_eq!(rt; memory.frames(), 2);
+        memory.write(&mut gpu, 0xff8, Width::Eight, 0x1122_3344_5566_7788);
+        memory.write(&mut gpu, 0xffc, Width::Four, 0xaabb_ccdd);
+        memory.write(&mut gpu, 0x1000, Width::Four, 7);
+        memory.write(&mut gpu, 0x2000, Width::Eight, 9);
+        assert_eq!(rt;
+            memory.read(&gpu, 0xff8, Width::Eight),
+            0xaabb_ccdd_5566_7788
+        );
+        assert_eq!(rt; memory.read(&gpu, 0xff8, Width::Four), 0x5566_7788);
+        assert_eq!(rt; memory.read(&gpu, 0x1000, Width::Eight), 7);
+        assert_eq!(rt; memory.read(&gpu, 0x2000, Width::Four), 0xffff_ffff);
+        Ok(())
+    }
+}
