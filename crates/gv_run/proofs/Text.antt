@@ -1,32 +1,16 @@
 -- The text of report lines, one after another.
-use Rattle.std.proofs.Common.{◌≡◌, List, [], ◌∷◌, ◌++◌, ℕ, Result, Ok, Err, OnOk, refl, sym, ap, ◌∙◌}
-use Rattle.std.proofs.lemmas.List.{append_assoc}
-use Rattle.std.proofs.lemmas.List.Concat.{flat_map-append}
+use Rattle.std.proofs.Common.{◌≡◌, List, [], ◌∷◌, ◌++◌, ℕ, Result, Ok, Err, OnOk, sym, ap, ◌∙◌}
+use Rattle.std.proofs.lemmas.List.{append_assoc, append-nil}
 use Rattle.gv_text.specs.Report.{report_text, text_of}
 use Rattle.gv_text.specs.declared.report_line.ReportLine.{ReportLine}
-
-pub text_of-append : (xs ys : List ReportLine) → text_of (xs ++ ys) ≡ text_of xs ++ text_of ys
-unfolding text_of
-text_of-append xs ys = flat_map-append report_text xs ys
-
-pub text_of-none : text_of [] ≡ []
-unfolding text_of
-text_of-none = refl
-
-append_nil : (xs : List ℕ) → xs ++ [] ≡ xs
-append_nil [] = refl
-append_nil (x ∷ xs) = ap (λ z. x ∷ z) (append_nil xs)
-
-pub text_of-one : (line : ReportLine) → text_of (line ∷ []) ≡ report_text line
-unfolding text_of
-text_of-one line = append_nil (report_text line)
+use Rattle.gv_text.proofs.ReportLines.{text_of-append, text_of-none, text_of-one}
 
 -- what was said goes on with one more piece
 pub said_more : (before after : List ℕ) (xs ys : List ReportLine) → after ≡ before ++ text_of xs → after ++ text_of ys ≡ before ++ text_of (xs ++ ys)
 said_more before after xs ys said = ap (λ z. z ++ text_of ys) said ∙ append_assoc before (text_of xs) (text_of ys) ∙ ap (λ z. before ++ z) (sym (text_of-append xs ys))
 
 pub said_none : (before : List ℕ) → before ≡ before ++ text_of []
-said_none before = sym (ap (λ z. before ++ z) text_of-none ∙ append_nil before)
+said_none before = sym (ap (λ z. before ++ z) text_of-none ∙ append-nil before)
 
 pub said_one : (before after : List ℕ) (line : ReportLine) → after ≡ before ++ report_text line → after ≡ before ++ text_of (line ∷ [])
 said_one before after line said = said ∙ ap (λ z. before ++ z) (sym (text_of-one line))

@@ -1,6 +1,6 @@
 -- One write of a line of writes.
-use Rattle.std.proofs.Common.{◌≡◌, ℕ, ◌+◌, ◌*◌, ◌<◌, List, [], ◌∷◌, ◌++◌, length, get_or, drop, refl, ap, sym, ◌∙◌, arith}
-use Rattle.std.proofs.lemmas.List.{at_drop_more}
+use Rattle.std.proofs.Common.{◌≡◌, ℕ, ◌+◌, ◌*◌, ◌<◌, List, [], ◌∷◌, ◌++◌, length, get_or, drop, ap, sym, ◌∙◌, arith}
+use Rattle.std.proofs.lemmas.List.{append-nil, at_drop_more}
 use Rattle.gv_types.specs.Memory.{bytes_of}
 use Rattle.gv_types.specs.declared.event.Event.{Event}
 use Rattle.gv_types.specs.declared.event.Event.TheVariants.{Write}
@@ -8,17 +8,12 @@ use Rattle.gv_types.specs.declared.event.Place.{Place}
 use Rattle.gv_types.specs.declared.event.Width.{Width}
 use Rattle.gv_types.specs.declared.ids.GuestId.{GuestId}
 use Rattle.gv_text.specs.Report.{text_of}
-use Rattle.gv_text.specs.declared.report_line.ReportLine.{ReportLine}
 use Rattle.gv_run.specs.Machine.{Machine, machine_after, machine_reply, writes_of, run_events}
 use Rattle.gv_run.specs.Report.{told, events_said}
 use Rattle.gv_run.proofs.Text.{said_more}
 
-append_nil : (xs : List ReportLine) → xs ++ [] ≡ xs
-append_nil [] = refl
-append_nil (x ∷ xs) = ap (λ z. x ∷ z) (append_nil xs)
-
 pub events_said-cons : (m : Machine) (event : Event) (events : List Event) → events_said m (event ∷ events) ≡ events_said m (event ∷ []) ++ events_said (machine_after m event) events
-events_said-cons m event events = ap (λ said. said ++ events_said (machine_after m event) events) (sym (append_nil (told event (machine_reply m event) (machine_reply m event).answer)))
+events_said-cons m event events = ap (λ said. said ++ events_said (machine_after m event) events) (sym (append-nil (told event (machine_reply m event) (machine_reply m event).answer)))
 
 module _ (guest : GuestId) (place : Place) (width : Width) (at : ℕ) (values : List ℕ) (i : ℕ) (h : i < length values) where
   abbrev left : List Event

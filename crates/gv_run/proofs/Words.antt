@@ -3,7 +3,7 @@ use Rattle.std.proofs.Common.{◌≡◌, ◌≢◌, Bool, true, false, ◌^◌, 
 use Rattle.std.proofs.lemmas.Bool.{cases_lt, eqb-true, lt-ltb}
 use Rattle.std.proofs.lemmas.Grind.{common_steps}
 use Rattle.std.specs.List.{concat}
-use Rattle.std.proofs.lemmas.List.{at_drop_more, get_or-map, length-map, drop_all}
+use Rattle.std.proofs.lemmas.List.{append-nil, at_drop_more, get_or-map, length-map, drop_all}
 use Rattle.gv_types.specs.Memory.{Memory, word_of, memory_read}
 use Rattle.gv_types.specs.declared.event.Width.TheVariants.{Eight}
 use Rattle.gv_gpu.specs.Device.{Device}
@@ -68,14 +68,10 @@ words_more g m k whole h =
     at_drop_more (words_said g (k * 8)) (concat m) k 0 within
     ∙ ap (λ word. words_said g (k * 8) (word ∷ drop (k + 1) (concat m))) (get_or-concat m k whole h)
     ∙ ap (λ at. said_word (k * 8) ++ words_said g at (drop (k + 1) (concat m))) next
-    ∙ ap (λ said. said ++ words_said g ((k + 1) * 8) (drop (k + 1) (concat m))) (sym (append_nil (said_word (k * 8))))
+    ∙ ap (λ said. said ++ words_said g ((k + 1) * 8) (drop (k + 1) (concat m))) (sym (append-nil (said_word (k * 8))))
   where
     said_word : ℕ → List ReportLine
     said_word at = cond (eqb (word_of m k) 0) [] (Told (record { 0 = g }) at (word_of m k) ∷ [])
-
-    append_nil : (xs : List ReportLine) → xs ++ [] ≡ xs
-    append_nil [] = refl
-    append_nil (x ∷ xs) = ap (λ z. x ∷ z) (append_nil xs)
 
 -- a word that isn't 0
 pub one_word : (g at value : ℕ) → value ≢ 0 → words_said g at (value ∷ []) ≡ Told (record { 0 = g }) at value ∷ []
