@@ -5,10 +5,9 @@
 use gv_gpu::SoftGpu;
 use gv_outside::{StdSink, StdSource};
 use gv_run::{Status, mediate};
-use std::env;
-use std::io;
 use std::io::ErrorKind;
 use std::process::ExitCode;
+use std::{env, io};
 
 fn run(rt: &HostRuntime) -> io::Result<Status> {
     let arguments = env::args(rt)?.collect::<Vec<String>>(rt.alloc())?;
@@ -19,13 +18,7 @@ fn run(rt: &HostRuntime) -> io::Result<Status> {
     let mut source = StdSource::new(rt.stdin());
     let mut sink = StdSink::new(rt.stdout());
     let mut gpu = SoftGpu::new(rt.alloc());
-    Ok(mediate(
-        rt.alloc(),
-        &words,
-        &mut source,
-        &mut sink,
-        &mut gpu,
-    ))
+    Ok(mediate(rt.alloc(), &words, &mut source, &mut sink, &mut gpu))
 }
 
 fn main(rt: HostRuntime) -> ExitCode {
