@@ -1,0 +1,2 @@
+pub mod Irq
+pub mod Fields

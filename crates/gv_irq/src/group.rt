@@ -1,0 +1,56 @@
+ghost use Rattle.std.specs.Prelude.{◌≡◌, ◌<◌, ◌==◌, ◌&&◌, not};
+ghost use Rattle.gv_irq.specs.Irq.{has_bit, group_raised, deliverable_bits, AreDwords};
+
+/// A group of 32 interrupt bits: those that are masked, that are pending and that may interrupt.
+#[derive(Clone, Copy, Debug, PartialEq, Eq)]
+pub struct Group {
+    pub imr: u32,
+    pub iir: u32,
+    pub ier: u32,
+}
+
+impl Group {
+    ghost use Rattle.gv_irq.specs.Fields.{group_of};
+
+    /// Every bit masked, none pending, and none that may interrupt.
+    pub fn new() -> Group
+        ensures { result ≡ record { imr = 0xFFFFFFFF; iir = 0; ier = 0 } }
+    {
+        Group {
+            imr: u32::MAX,
+            iir: 0,
+            ier: 0,
+        }
+    }
+
+    /// Sets the bit of IIR, unless IMR masks it. Answers whether the bit was clear before, and may
+    /// interrupt.
+    pub fn raise(&mut self, bit: u8) -> bool
+        requires { bit < 32 }
+        ensures answer { result ≡ (not (has_bit self.old.imr bit) && not (has_bit self.old.iir bit) && has_bit self.old.ier bit) }
+        ensures dwords { AreDwords (group_of self.old) → AreDwords (group_of self.new) }
+        ensures after { group_of self.new ≡ group_raised (group_of self.old) bit }
+    {
+        if has_bit(self.imr, bit) {
+            return false;
+        }
+        let injects = !has_bit(self.iir, bit) && has_bit(self.ier, bit);
+        self.iir |= 1 << bit;
+        injects
+    }
+
+    /// The bits that are pending and may interrupt.
+    pub fn deliverable(&self) -> u32
+        ensures { result ≡ deliverable_bits (group_of self.now) }
+    {
+        self.iir & self.ier
+    }
+}
+
+/// Whether the dword has the bit.
+pub fn has_bit(dword: u32, bit: u8) -> bool
+    requires { bit < 32 }
+    ensures { result ≡ has_bit dword bit }
+{
+    (dword >> bit) & 1 == 1
+}

@@ -1,0 +1,9 @@
+pub mod Two
+pub mod Rows
+pub mod Absent
+pub mod Spans
+pub mod Told
+pub mod Dwords
+pub mod Maps
+pub mod Laws
+pub mod MaskedBits

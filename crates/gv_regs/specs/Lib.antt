@@ -1,0 +1,4 @@
+pub mod Table
+pub mod Registers
+pub mod Decoded
+pub mod Fields

@@ -1,0 +1,28 @@
+use gv_types::EngineId;
+
+/// Which part of the device serves a register. A number counts the dwords of the status pairs
+/// (twelve) or of the general registers (32).
+#[derive(Clone, Copy, Debug, PartialEq, Eq)]
+pub enum Target {
+    /// The register file itself.
+    Own,
+    Elsp(EngineId),
+    Status(EngineId, u8),
+    StatusPointer(EngineId),
+    General(EngineId, u8),
+    Interrupts,
+    EngineReset,
+    /// The register of the PVINFO page that announces and forgets roots.
+    Notify,
+    /// There is no register.
+    Absent,
+}
+
+/// What became of a write: the register file kept it, it did nothing, or it goes to the part of the
+/// device that serves the register.
+#[derive(Clone, Copy, Debug, PartialEq, Eq)]
+pub enum Effect {
+    Kept,
+    Nothing,
+    Goes(Target),
+}
