@@ -1,0 +1,2 @@
+pub mod NodeMap
+pub mod Keys

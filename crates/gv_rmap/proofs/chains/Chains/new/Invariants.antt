@@ -1,0 +1,6 @@
+use Rattle.std.proofs.Common.{◌≡◌, [], map, replicate}
+use Rattle.gv_rmap.specs.Tree.{leaves}
+use Rattle.gv_rmap.proofs.chains.Chains.new.Given as goal
+
+abbrev pub invariant-loop : goal.invariant-loop
+invariant-loop l = map leaves l.chains.items ≡ replicate l.counter []

@@ -1,0 +1,4 @@
+pub mod Leaves
+pub mod Chains
+pub mod Tree
+pub mod Inside
