@@ -1,7 +1,7 @@
 -- Pages of a part come and go and are written, and the rest of the device doesn't see it.
 use Rattle.std.proofs.Common.{◌≡◌, ℕ, true, false, List, [], Option, None, Some, refl, sym, cond, arith, set}
 use Rattle.std.proofs.lemmas.Grind.{common_steps}
-use Rattle.gv_gpu.specs.Device.{Device, put, added, released, poked}
+use Rattle.gv_gpu.specs.Device.{Device, put, added, released, poked, with_global}
 use Rattle.gv_gpu.specs.Part.{Part, outside}
 use Rattle.gv_types.specs.Memory.{zero_words}
 use Rattle.gv_types.specs.declared.ids.Label.{Label}
@@ -29,3 +29,10 @@ module _ (p : Part) (d : Device) (page : ℕ) (own : p.page page (d.label page) 
 
   pub outside-poked : (index value : ℕ) → outside p (poked d page index value) ≡ outside p d
   outside-poked index value = λ i. record (outside p d) { words = λ q. rewritten (set (d.words page) index value) q i }
+
+-- an entry of the part is set
+pub outside-global : (p : Part) (d : Device) (index entry : ℕ) → p.entry index ≡ true → outside p (with_global d index entry) ≡ outside p d
+outside-global p d index entry own = λ i. record (outside p d) { global = λ n. at n i }
+  where
+    at : (n : ℕ) → cond (p.entry n) 0 (put d.global index entry n) ≡ cond (p.entry n) 0 (d.global n)
+    at n = grind (arith, common_steps)

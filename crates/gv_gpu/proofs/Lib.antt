@@ -1,5 +1,7 @@
 pub mod Changed
-pub mod FreeList
-pub mod Pages
+pub mod Effects
+pub mod Examples
+pub mod Guests
 pub mod Parts
 pub mod Seen
+pub mod Steps

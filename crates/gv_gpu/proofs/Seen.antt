@@ -1,7 +1,7 @@
 -- What two devices with the same part have in common.
 use Rattle.std.proofs.Common.{◌≡◌, ℕ, Bool, true, false, [], None, Some, refl, ap, ◌∙◌, cond}
 use Rattle.gv_gpu.specs.Device.{Device}
-use Rattle.gv_gpu.specs.Part.{Part, inside}
+use Rattle.gv_gpu.specs.Part.{Part, inside, outside}
 use Rattle.gv_types.specs.declared.ids.Label.{Label}
 
 shown : {A : Type 0} (b : Bool) (x y none : A) → b ≡ true → cond b x none ≡ y → x ≡ y
@@ -35,3 +35,11 @@ module _ (w : Part) (d e : Device) (same : inside w e ≡ inside w d) where
 
   pub loaded-same : (k : ℕ) → w.engine k ≡ true → e.loaded k ≡ d.loaded k
   loaded-same k own = shown (w.engine k) (e.loaded k) (d.loaded k) None own (ap (λ (x : Device). x.loaded k) same ∙ ap (λ b. cond b (d.loaded k) None) own)
+
+hidden : {A : Type 0} (b : Bool) (x y none : A) → b ≡ false → cond b none x ≡ cond b none y → x ≡ y
+hidden true x y none is h = cc
+hidden false x y none is h = h
+
+-- An entry that isn't in the part that changed is as before.
+pub global-others : (p : Part) (d e : Device) (i : ℕ) → p.entry i ≡ false → outside p e ≡ outside p d → e.global i ≡ d.global i
+global-others p d e i other same = hidden (p.entry i) (e.global i) (d.global i) 0 other (ap (λ (x : Device). x.global i) same)

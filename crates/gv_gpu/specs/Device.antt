@@ -70,3 +70,25 @@ released d page = record d { label = put d.label page None; words = put d.words 
 
 abbrev pub poked : Device → ℕ → ℕ → ℕ → Device
 poked d page index value = record d { words = put d.words page (slice_set (d.words page) index value); pokes = counted d.pokes }
+
+-- one entry of the global table
+abbrev pub with_global : Device → ℕ → ℕ → Device
+with_global d index entry = record d { global = put d.global index entry }
+
+-- a word of a page, as an engine writes it
+abbrev pub with_word : Device → ℕ → ℕ → ℕ → Device
+with_word d page index value = record d { words = put d.words page (slice_set (d.words page) index value) }
+
+-- general register n of an engine
+abbrev pub with_general : Device → ℕ → ℕ → ℕ → Device
+with_general d engine n value = record d { general = put d.general engine (put (d.general engine) n value) }
+
+-- the context that is loaded on an engine, or none
+abbrev pub with_loaded : Device → ℕ → Option Loaded → Device
+with_loaded d engine context = record d { loaded = put d.loaded engine context }
+
+abbrev pub with_spare : Device → ℕ → Device
+with_spare d n = record d { spare = n }
+
+abbrev pub with_faults : Device → ℕ → Device
+with_faults d n = record d { faults = n }

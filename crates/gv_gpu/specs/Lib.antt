@@ -1,3 +1,5 @@
+pub mod Context
 pub mod Device
 pub mod Part
-pub mod Soft
+pub mod Physical
+pub mod Step

@@ -1,7 +1,10 @@
 -- A part of the device is given by tests: which pages, by number and label; which entries of the
 -- global table; which engines, with their general registers and loaded context; and whether the
 -- room for journal entries. A call that is given the device says which part it changes.
-use Rattle.std.specs.Prelude.{◌≡◌, ℕ, Bool, true, false, not, ◌&&◌, [], Option, None, Some, if◌then◌else◌, ◌==◌}
+use Rattle.std.specs.Prelude.{◌≡◌, ℕ, ◌+◌, ◌*◌, Bool, true, false, not, ◌&&◌, ◌||◌, List, [], Option, None, Some, if◌then◌else◌, ◌==◌, nat_lt, nat_le}
+use Rattle.std.specs.List.{list_any}
+use Rattle.gv_types.specs.declared.ranges.Ranges.{Ranges}
+use Rattle.gv_entry.specs.Ranges.{owns_page}
 use Rattle.gv_gpu.specs.Device.{Device}
 use Rattle.gv_types.specs.declared.ids.Label.{Label}
 
@@ -56,11 +59,58 @@ pub record Within (p w : Part) : Type 0 where
   pub engine : (e : ℕ) → p.engine e ≡ true → w.engine e ≡ true
   pub spare : p.spare ≡ true → w.spare ≡ true
 
--- a page with this label
+-- A frame of a guest's memory, a shadow page of the guest's, or either.
 abbrev pub is_frame_of : ℕ → Option Label → Bool
 is_frame_of guest None = false
 is_frame_of guest (Some l) = (l.guest.0 == guest) && not l.shadow
 
--- the pages of a guest's frames
+abbrev pub is_shadow_of : ℕ → Option Label → Bool
+is_shadow_of guest None = false
+is_shadow_of guest (Some l) = (l.guest.0 == guest) && l.shadow
+
+abbrev pub is_page_of : ℕ → Option Label → Bool
+is_page_of guest None = false
+is_page_of guest (Some l) = l.guest.0 == guest
+
+abbrev pub is_named : List ℕ → ℕ → Bool
+is_named own n = list_any (λ page. page == n) own
+
+-- The mediator's window: from page 0xFC000 on, 512 entries for each guest and engine.
+abbrev pub first_of_window : ℕ → ℕ → ℕ
+first_of_window guest engine = 0xFC000 + (4 * guest + engine) * 0x200
+
+abbrev pub is_in_window : ℕ → ℕ → ℕ → Bool
+is_in_window guest engine entry = nat_le (first_of_window guest engine) entry && nat_lt entry (first_of_window guest engine + 0x200)
+
+abbrev pub is_in_windows : ℕ → ℕ → Bool
+is_in_windows guest entry = nat_le (first_of_window guest 0) entry && nat_lt entry (first_of_window (guest + 1) 0)
+
+-- The part of each layer. Guest memory has the pages of its guest's frames.
 abbrev pub frames_part : ℕ → Part
 frames_part guest = record { page = λ _ l. is_frame_of guest l; entry = λ _. false; engine = λ _. false; spare = false }
+
+-- The shadow global table has the entries of its ranges.
+abbrev pub entries_part : Ranges → Part
+entries_part ranges = record { page = λ _ _. false; entry = λ i. owns_page ranges i; engine = λ _. false; spare = false }
+
+-- The shadow per-process tables have the shadow pages that they made.
+abbrev pub tables_part : ℕ → List ℕ → Part
+tables_part guest own = record { page = λ n l. is_named own n && is_shadow_of guest l; entry = λ _. false; engine = λ _. false; spare = false }
+
+-- A shadow ring and its image have their window's entries, and the shadow pages that were made for them.
+abbrev pub window_part : ℕ → ℕ → List ℕ → Part
+window_part guest engine own = record { page = λ n l. is_named own n && is_shadow_of guest l; entry = λ i. is_in_window guest engine i; engine = λ _. false; spare = false }
+
+-- An exchange of the engine's state has its general registers, its loaded context, and the page of the
+-- shadow image that keeps the context's place.
+abbrev pub context_part : ℕ → ℕ → ℕ → Part
+context_part guest engine image = record { page = λ n l. (n == image) && is_shadow_of guest l; entry = λ _. false; engine = λ e. e == engine; spare = false }
+
+-- One guest has all of its pages, its entries and its windows, and, on the engines that it owns, their
+-- state; and it may make room in the journal.
+abbrev pub guest_part : ℕ → Ranges → (ℕ → Bool) → Part
+guest_part guest ranges here = record { page = λ _ l. is_page_of guest l; entry = λ i. owns_page ranges i || is_in_windows guest i; engine = here; spare = true }
+
+-- What of this no other guest's call changes: all but the engines and the room.
+abbrev pub resting_part : ℕ → Ranges → Part
+resting_part guest ranges = record { page = λ _ l. is_page_of guest l; entry = λ i. owns_page ranges i || is_in_windows guest i; engine = λ _. false; spare = false }

@@ -1,9 +1,9 @@
-//! The shared graphics device, by what it holds: the trait `Gpu`, the parts of a device that the
-//! layers above divide among them, and for now a device in memory.
+//! The shared graphics device, by what it holds and what a step of an engine does to it: the trait
+//! `Gpu`, and the parts of a device that the layers above divide among them.
 #![tactic(auto)]
 
 mod gpu;
-mod soft;
+mod step;
 
 pub use gpu::{Gpu, GpuFailed};
-pub use soft::SoftGpu;
+pub use step::Step;

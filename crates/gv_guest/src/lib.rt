@@ -2,5 +2,7 @@
 #![tactic(auto)]
 
 mod memory;
+mod word;
 
 pub use memory::Memory;
+pub use word::{half, with_half};

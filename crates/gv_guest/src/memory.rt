@@ -1,9 +1,10 @@
 ghost use Rattle.std.specs.Prelude.{◌≡◌, ℕ, ◌+◌, ◌*◌, ◌/◌, ◌%◌, ◌^◌, ◌<◌, ◌≤◌, length, slice_index, IfOk, OnOk};
 ghost use Rattle.gv_gpu.specs.Device.{counted};
 ghost use Rattle.gv_gpu.specs.Part.{outside, frames_part};
-ghost use Rattle.gv_types.specs.Memory.{memory_read, memory_write, word_of, with_word, half_of, with_half, zero_memory, bytes_of, all_ones};
+ghost use Rattle.gv_types.specs.Memory.{memory_read, memory_write, word_of, with_word, zero_memory, bytes_of, all_ones};
 ghost use Rattle.gv_guest.specs.Placed.{Stands, memory_in, nowhere};
 
+use crate::word::{half, with_half};
 use gv_gpu::Gpu;
 use gv_types::{GuestId, Label, OutOfMemory, Width};
 use std::alloc::Global;
@@ -25,29 +26,6 @@ impl Model for Memory {
     ghost view = { λ m. record { guest = m.guest.0; pages = m.pages.items } };
 
     ghost invariant = { λ m. length m.pages.items ≤ 16384 };
-}
-
-// The half of a word at an address.
-fn half(word: u64, at: u64) -> u64
-    ensures { result ≡ half_of word at }
-{
-    if at % 8 == 0 {
-        word % 0x1_0000_0000
-    } else {
-        word / 0x1_0000_0000
-    }
-}
-
-// The word with another half at an address.
-fn with_half(word: u64, at: u64, value: u64) -> u64
-    requires { value < 2 ^ 32 }
-    ensures { result ≡ with_half word at value }
-{
-    if at % 8 == 0 {
-        word / 0x1_0000_0000 * 0x1_0000_0000 + value
-    } else {
-        value * 0x1_0000_0000 + word % 0x1_0000_0000
-    }
 }
 
 impl Memory {
@@ -167,7 +145,7 @@ impl Memory {
 #[cfg(test)]
 mod tests {
     use crate::Memory;
-    use gv_gpu::SoftGpu;
+    use gv_engine::SoftGpu;
     use gv_types::{GuestId, Width};
     use std::test::Fail;
 

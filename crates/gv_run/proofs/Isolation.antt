@@ -1,22 +1,23 @@
 -- Each guest is told what its own device alone would tell it, and no device runs a command.
-use Rattle.std.proofs.Common.{◌≡◌, ℕ, ◌+◌, ◌<◌, ◌≤◌, List, [], ◌∷◌, ◌++◌, cond, length, filter, get_or, map, refl, ap, sym, ◌∙◌, subst, arith}
-use Rattle.std.proofs.lemmas.List.{length-map, get_or-map}
+use Rattle.std.proofs.Common.{◌≡◌, ℕ, ◌+◌, ◌<◌, ◌≤◌, List, [], ◌∷◌, ◌++◌, cond, length, filter, refl, ap, sym, ◌∙◌, subst, arith}
 use Rattle.std.proofs.lemmas.List.Elements.{filter-append}
 use Rattle.std.specs.List.{flat_map}
 use Rattle.gv_types.specs.declared.event.Event.{Event}
+use Rattle.gv_balloon.specs.Shares.{nothing_given}
 use Rattle.gv_gpu.specs.Device.{Entry}
 use Rattle.gv_text.specs.Guest.{speaks_of, lines_of_guest}
 use Rattle.gv_text.specs.Report.{text_of}
 use Rattle.gv_text.specs.Script.{Script, script_of}
 use Rattle.gv_text.specs.declared.report_line.ReportLine.{ReportLine}
+use Rattle.gv_text.specs.declared.script_line.Guest.{Guest as GuestForm}
 use Rattle.gv_text.specs.declared.script_line.Line.{Line}
 use Rattle.gv_text.proofs.ReportLines.{lines_of_guest-text_of}
-use Rattle.gv_run.specs.Device.{PrivateDevice, new_device}
+use Rattle.gv_vgpu.specs.Device.{PrivateDevice, new_device}
 use Rattle.gv_run.specs.Headline.{IsPrivate}
 use Rattle.gv_run.specs.Machine.{Machine, device_at, machine_after, events_of, run_events, line_after, run_lines, events_commands, lines_commands}
 use Rattle.gv_run.specs.Report.{events_said, memory_said, ending_said, script_said, report_of, commands_in}
-use Rattle.gv_run.specs.Solo.{device_said, run_device, solo, frames_of, inputs_of, is_done}
-use Rattle.gv_run.proofs.Joined.{length-run, run-joined, said-joined}
+use Rattle.gv_run.specs.Solo.{device_said, run_device, solo, guests_of, frames_of, ranges_of, inputs_of, is_done}
+use Rattle.gv_run.proofs.Joined.{devices_from, length-devices_from, device-from, length-run, run-joined, said-joined}
 use Rattle.gv_run.proofs.Named.{IsRun, run-script_of, run-small, run-named, named-more}
 use Rattle.gv_run.proofs.OwnLines.{events-spoken, events-own, ending-spoken}
 use Rattle.gv_run.proofs.Printable.{Printable, printable-append, events-printable, ending-printable}
@@ -34,17 +35,17 @@ unfolding commands_in
 commands_in-none source = lines_none [] (script_of source).lines
 
 module _ (script : Script) (run : IsRun 0 script.lines) where
-  abbrev frames : List ℕ
-  frames = frames_of script.lines
+  abbrev guests : List GuestForm
+  guests = guests_of script.lines
 
   abbrev machine : Machine
-  machine = map new_device frames
+  machine = devices_from 0 nothing_given guests
 
   abbrev events : List Event
   events = flat_map events_of script.lines
 
-  few : length frames ≤ 8
-  few = let small : 0 + length frames ≤ 8 = run-small 0 script.lines run in omega arith
+  few : length guests ≤ 8
+  few = let small : 0 + length guests ≤ 8 = run-small 0 script.lines run in omega arith
 
   in_the_end : run_lines [] script.lines ≡ run_events machine events
   in_the_end = run-joined [] script.lines run
@@ -54,31 +55,34 @@ module _ (script : Script) (run : IsRun 0 script.lines) where
       ap (λ (z : List ReportLine). z ++ ending_said script.ending (run_lines [] script.lines)) (said-joined [] script.lines run)
       ∙ ap (λ (m : Machine). events_said machine events ++ ending_said script.ending m) in_the_end
 
-  same_length : length (run_events machine events) ≡ length frames
-  same_length = length-run machine events ∙ length-map frames new_device
+  same_length : length (run_events machine events) ≡ length guests
+  same_length = length-run machine events ∙ length-devices_from 0 nothing_given guests
 
-  wide : 0 + length frames ≤ 8
+  wide : 0 + length guests ≤ 8
   wide = let small = few in omega arith
 
   printable : Printable (script_said [] script)
   printable =
       let ended : length (run_events machine events) ≤ 8 = subst (λ n. n ≤ 8) (sym same_length) few in
       subst Printable (sym all_said) (printable-append (events_said machine events) (ending_said script.ending (run_events machine events))
-      (events-printable machine events (named-more (0 + length frames) 8 events wide (run-named 0 script.lines run)))
+      (events-printable machine events (named-more (0 + length guests) 8 events wide (run-named 0 script.lines run)))
       (ending-printable script.ending (run_events machine events) ended))
 
-  module _ (g : ℕ) (there : g < length frames) where
+  module _ (g : ℕ) (there : g < length guests) where
     abbrev alone : PrivateDevice
-    alone = new_device (get_or frames g 0)
+    alone = new_device g (frames_of script.lines g) (ranges_of script.lines g)
 
     abbrev inputs : List Event
     inputs = inputs_of g script.lines
 
     at_first : device_at machine g ≡ alone
-    at_first = get_or-map new_device frames g 0 (new_device 0) there
+    at_first =
+        let same : 0 + g ≡ g = omega arith in
+        device-from 0 nothing_given guests g there
+        ∙ ap (λ number. new_device number (frames_of script.lines g) (ranges_of script.lines g)) same
 
     in_machine : g < length machine
-    in_machine = subst (λ n. g < n) (sym (length-map frames new_device)) there
+    in_machine = subst (λ n. g < n) (sym (length-devices_from 0 nothing_given guests)) there
 
     in_ended : g < length (run_events machine events)
     in_ended = subst (λ n. g < n) (sym same_length) there
@@ -93,7 +97,7 @@ module _ (script : Script) (run : IsRun 0 script.lines) where
         ∙ ap (λ (z : List ReportLine). z ++ filter (speaks_of g) (ending_said script.ending (run_events machine events))) (events-spoken g machine events in_machine ∙ ap (λ (p : PrivateDevice). device_said p inputs) at_first)
         ∙ ap (λ (z : List ReportLine). device_said alone inputs ++ z) (ending-spoken g script.ending (run_events machine events) in_ended ∙ ap (λ (p : PrivateDevice). cond (is_done script.ending) (memory_said g p.memory) []) at_last)
 
-    pub private : lines_of_guest g (text_of (script_said [] script)) ≡ solo g (get_or frames g 0) inputs (is_done script.ending)
+    pub private : lines_of_guest g (text_of (script_said [] script)) ≡ solo g (frames_of script.lines g) (ranges_of script.lines g) inputs (is_done script.ending)
     unfolding solo
     private =
         let small : g < 8 = let most = few in omega arith in

@@ -3,6 +3,7 @@ pub mod Agreed
 pub mod Isolation
 pub mod Joined
 pub mod Kept
+pub mod KeptRanges
 pub mod Left
 pub mod Limit
 pub mod Memories
@@ -10,6 +11,7 @@ pub mod Named
 pub mod OneGuest
 pub mod OwnLines
 pub mod Printable
+pub mod Ran
 pub mod Source
 pub mod Statuses
 pub mod Text

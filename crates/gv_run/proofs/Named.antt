@@ -1,23 +1,25 @@
 -- The events of an accepted script name guests that are there.
 use Rattle.std.proofs.Common.{◌≡◌, ℕ, ◌+◌, ◌<◌, ◌≤◌, Bool, true, false, not, ◌&&◌, List, [], ◌∷◌, ◌++◌, Option, None, Some, cond, length, take, refl, ap, sym, ◌∙◌, subst, arith}
 use Rattle.std.proofs.lemmas.Bool.{ltb-true}
+use Rattle.std.proofs.lemmas.Bool.Decides.{nat_tests}
 use Rattle.std.specs.Prelude.{nat_le, nat_lt}
 use Rattle.std.specs.List.{AllByRecursion, flat_map}
+use Rattle.gv_balloon.specs.Shares.{fits}
 use Rattle.gv_types.specs.Memory.{bytes_of}
 use Rattle.gv_types.specs.declared.event.Event.{Event}
 use Rattle.gv_types.specs.declared.event.Place.{Place}
 use Rattle.gv_types.specs.declared.event.Width.{Width}
 use Rattle.gv_types.specs.declared.ids.GuestId.{GuestId}
 use Rattle.gv_text.specs.Number.{◌>>=◌, check}
-use Rattle.gv_text.specs.Script.{Script, nothing_known, accepts, known_after, accepted, is_end, ends, onto_script, script_on, script_from, script_in, script_of, script_limit, lines_of, counts_last}
+use Rattle.gv_text.specs.Script.{Script, want_of, nothing_known, accepts, known_after, accepted, is_end, ends, onto_script, script_on, script_from, script_in, script_of, script_limit, lines_of, counts_last}
 use Rattle.gv_text.specs.Grammar.{line_of}
 use Rattle.gv_text.specs.declared.ending.Ending.TheVariants.{Done}
 use Rattle.gv_text.specs.declared.known.Known.{Known}
 use Rattle.gv_text.specs.declared.script_line.Line.{Line}
-use Rattle.gv_text.specs.declared.script_line.Line.TheVariants.{Blank, Guest, Read, Write}
-use Rattle.gv_run.specs.Device.{guest_of}
+use Rattle.gv_text.specs.declared.script_line.Line.TheVariants.{Blank, Guest, Read, Write, Reset}
 use Rattle.gv_run.specs.Machine.{writes_of, events_of}
-use Rattle.gv_run.specs.Solo.{frames_of}
+use Rattle.gv_run.specs.Solo.{guests_of}
+use Rattle.gv_vgpu.specs.Step.{guest_of}
 
 -- the event's guest is one of the first n
 abbrev pub NamesBelow : ℕ → Event → Type 0
@@ -37,9 +39,13 @@ writes_named : (n : ℕ) (guest : GuestId) (place : Place) (width : Width) (at :
 writes_named n guest place width at [] h = tt
 writes_named n guest place width at (value ∷ values) h = (h, writes_named n guest place width (at + bytes_of width) values h)
 
+reset_named : (known : Known) (guest : ℕ) → accepts known (Reset guest) ≡ true → guest < known.guests
+reset_named known guest is = grind (arith, nat_tests)
+
 line_named : (known : Known) (line : Line) → accepts known line ≡ true → AllByRecursion (NamesBelow known.guests) (events_of line)
 line_named known (Read guest place width at) is = (ltb-true guest known.guests is, tt)
 line_named known (Write guest place width at values) is = writes_named known.guests (record { 0 = guest }) place width at values (ltb-true guest known.guests is)
+line_named known (Reset guest) is = (reset_named known guest is, tt)
 line_named known line is = tt
 
 guests_kept : (known : Known) (line : Line) → (known_after known line).guests ≡ guests_after known.guests line
@@ -47,14 +53,14 @@ guests_kept known Blank = refl
 guests_kept known (Guest g) = refl
 guests_kept known line = refl
 
-room_first : (a b c d e : Bool) → (not a && (b && c && d && e)) ≡ true → b ≡ true
-room_first true b c d e is = cc
-room_first false true c d e is = refl
-room_first false false c d e is = is
+room_first : (a b c d : Bool) → (not a && (b && c && d)) ≡ true → b ≡ true
+room_first true b c d is = cc
+room_first false true c d is = refl
+room_first false false c d is = is
 
 room : (known : Known) (line : Line) → known.guests ≤ 8 → accepts known line ≡ true → guests_after known.guests line ≤ 8
 room known (Guest g) small is =
-    let below : known.guests < 8 = ltb-true known.guests 8 (room_first known.begun (nat_lt known.guests 8) (nat_le (known.frames + g.frames) 16384) (nat_le (known.low + g.low) 65536) (nat_le (known.high + g.high) 966656) is) in
+    let below : known.guests < 8 = ltb-true known.guests 8 (room_first known.begun (nat_lt known.guests 8) (nat_le (known.frames + g.frames) 16384) (fits known.given (want_of g)) is) in
     omega arith
 room known line small is = small
 
@@ -93,10 +99,10 @@ pub run-script_of : (source : List ℕ) → IsRun 0 (script_of source).lines
 unfolding script_of
 run-script_of source = by_length (nat_le (length source) script_limit) source (take script_limit source)
 
-pub run-small : (n : ℕ) (lines : List Line) → IsRun n lines → n + length (frames_of lines) ≤ 8
+pub run-small : (n : ℕ) (lines : List Line) → IsRun n lines → n + length (guests_of lines) ≤ 8
 run-small n [] run = omega arith
 run-small n (Guest g ∷ lines) run =
-    let more : n + 1 + length (frames_of lines) ≤ 8 = run-small (n + 1) lines run.1 in
+    let more : n + 1 + length (guests_of lines) ≤ 8 = run-small (n + 1) lines run.1 in
     omega arith
 run-small n (line ∷ lines) run = run-small n lines run.1
 
@@ -110,11 +116,11 @@ named-more n k (x ∷ xs) h named =
     let there : (guest_of x).0 < n = named.0 in
     (omega arith, named-more n k xs h named.1)
 
-pub run-named : (n : ℕ) (lines : List Line) → IsRun n lines → AllByRecursion (NamesBelow (n + length (frames_of lines))) (flat_map events_of lines)
+pub run-named : (n : ℕ) (lines : List Line) → IsRun n lines → AllByRecursion (NamesBelow (n + length (guests_of lines))) (flat_map events_of lines)
 run-named n [] run = tt
 run-named n (Guest g ∷ lines) run =
-    let same : n + 1 + length (frames_of lines) ≡ n + length (g.frames ∷ frames_of lines) = omega arith in
+    let same : n + 1 + length (guests_of lines) ≡ n + length (guests_of (Guest g ∷ lines)) = omega arith in
     subst (λ k. AllByRecursion (NamesBelow k) (flat_map events_of lines)) same (run-named (n + 1) lines run.1)
 run-named n (line ∷ lines) run =
-    let wide : n ≤ n + length (frames_of lines) = omega arith in
-    all_append (n + length (frames_of lines)) (events_of line) (flat_map events_of lines) (named-more n (n + length (frames_of lines)) (events_of line) wide run.0) (run-named n lines run.1)
+    let wide : n ≤ n + length (guests_of lines) = omega arith in
+    all_append (n + length (guests_of lines)) (events_of line) (flat_map events_of lines) (named-more n (n + length (guests_of lines)) (events_of line) wide run.0) (run-named n lines run.1)

@@ -1,25 +1,29 @@
 -- The lines of a report that speak of one guest, by its own device.
-use Rattle.std.proofs.Common.{◌≡◌, ◌≢◌, ℕ, zero, suc, ◌+◌, ◌<◌, Bool, true, false, List, [], ◌∷◌, ◌++◌, cond, eqb, length, filter, get_or, set, refl, ap, sym, ◌∙◌, arith}
+use Rattle.std.proofs.Common.{◌≡◌, ◌≢◌, ℕ, zero, suc, ◌+◌, ◌<◌, Bool, true, false, Option, None, Some, List, [], ◌∷◌, ◌++◌, cond, eqb, length, filter, get_or, set, refl, ap, sym, ◌∙◌, arith}
 use Rattle.std.proofs.lemmas.Bool.{false≢true, eqb-true, eq-eqb}
 use Rattle.std.proofs.lemmas.List.{append-nil, get_or-set_same, get_or-set_other}
 use Rattle.std.proofs.lemmas.List.Elements.{filter-append}
 use Rattle.std.specs.List.{concat}
 use Rattle.gv_types.specs.declared.event.Event.{Event}
-use Rattle.gv_types.specs.declared.event.Event.TheVariants.{Read}
-use Rattle.gv_types.specs.declared.event.Place.TheVariants as places
+use Rattle.gv_types.specs.declared.event.Event.TheVariants.{Read, Reset}
+use Rattle.gv_types.specs.declared.ids.GuestId.{GuestId}
+use Rattle.gv_types.specs.declared.reply.Answer.{Answer}
+use Rattle.gv_types.specs.declared.reply.Answer.TheVariants.{Value}
+use Rattle.gv_types.specs.declared.reply.Reply.{Reply}
 use Rattle.gv_text.specs.Guest.{speaks_of}
 use Rattle.gv_text.specs.declared.ending.Ending.{Ending}
 use Rattle.gv_text.specs.declared.ending.Ending.TheVariants.{Done, BadScript, TooLong}
 use Rattle.gv_text.specs.declared.report_line.ReportLine.{ReportLine}
 use Rattle.gv_text.specs.declared.report_line.ReportLine.TheVariants as said
-use Rattle.gv_run.specs.Device.{PrivateDevice, new_device, device_after, reply_of, guest_of}
-use Rattle.gv_run.specs.Machine.{Machine, device_at, machine_after, run_events}
-use Rattle.gv_run.specs.Report.{told, events_said, words_said, memory_said, memories_said, ending_said}
+use Rattle.gv_vgpu.specs.Device.{PrivateDevice, new_device}
+use Rattle.gv_vgpu.specs.Step.{device_after, reply_of, guest_of}
+use Rattle.gv_run.specs.Machine.{Machine, no_ranges, device_at, machine_after, run_events}
+use Rattle.gv_run.specs.Report.{irq_said, answer_said, told, events_said, words_said, memory_said, memories_said, ending_said}
 use Rattle.gv_run.specs.Solo.{device_said, run_device, is_done}
 use Rattle.gv_run.proofs.Joined.{length-after}
 
 abbrev telling : PrivateDevice → Event → List ReportLine
-telling p event = told event (reply_of p event) (reply_of p event).answer
+telling p event = told event (reply_of p event)
 
 abbrev nothing_said : List ReportLine
 nothing_said = []
@@ -39,22 +43,42 @@ module _ (g : ℕ) where
   spoken-append : (xs ys : List ReportLine) → spoken (xs ++ ys) ≡ spoken xs ++ spoken ys
   spoken-append xs ys = filter-append (speaks_of g) xs ys
 
+  cond_append : (b : Bool) (xs ys : List ReportLine) → cond b xs [] ++ cond b ys [] ≡ cond b (xs ++ ys) []
+  cond_append true xs ys = refl
+  cond_append false xs ys = refl
+
+  irq_spoken : (guest : GuestId) (irq : Option ℕ) → spoken (irq_said guest irq) ≡ cond (eqb guest.0 g) (irq_said guest irq) []
+  irq_spoken guest None = neither (eqb guest.0 g)
+  irq_spoken guest (Some pending) = refl
+
+  answer_spoken : (event : Event) (guest : GuestId) (answer : Answer) → spoken (answer_said event guest answer) ≡ cond (eqb guest.0 g) (answer_said event guest answer) []
+  answer_spoken (Read from place width at) guest (Value value) = refl
+  answer_spoken (Reset from) guest answer = refl
+  answer_spoken event guest answer = neither (eqb guest.0 g)
+
   -- what is told of an event speaks of its guest
+  told_spoken : (event : Event) (reply : Reply) → spoken (told event reply) ≡ cond (eqb reply.guest.0 g) (told event reply) []
+  told_spoken event reply =
+      let irq = irq_said reply.guest reply.irq in
+      let answer = answer_said event reply.guest reply.answer in
+      spoken-append irq answer
+      ∙ ap (λ (z : List ReportLine). z ++ spoken answer) (irq_spoken reply.guest reply.irq)
+      ∙ ap (λ (z : List ReportLine). cond (eqb reply.guest.0 g) irq [] ++ z) (answer_spoken event reply.guest reply.answer)
+      ∙ cond_append (eqb reply.guest.0 g) irq answer
+
   telling_spoken : (event : Event) (p : PrivateDevice) → spoken (telling p event) ≡ cond (eqb (guest_of event).0 g) (telling p event) []
-  telling_spoken (Read guest places.Memory width at) p = refl
-  telling_spoken (Read guest place width at) p = neither (eqb guest.0 g)
-  telling_spoken event p = neither (eqb (guest_of event).0 g)
+  telling_spoken event p = told_spoken event (reply_of p event)
 
   module _ (m : Machine) (event : Event) (there : g < length m) where
     after_own : (guest_of event).0 ≡ g → device_at (machine_after m event) g ≡ device_after (device_at m g) event
     after_own same =
-        ap (λ (i : ℕ). get_or (set m i (device_after (device_at m i) event)) g (new_device 0)) same
-        ∙ get_or-set_same m g (device_after (device_at m g) event) (new_device 0) there
+        ap (λ (i : ℕ). get_or (set m i (device_after (device_at m i) event)) g (new_device 0 0 no_ranges)) same
+        ∙ get_or-set_same m g (device_after (device_at m g) event) (new_device 0 0 no_ranges) there
 
     after_other : eqb (guest_of event).0 g ≡ false → device_at (machine_after m event) g ≡ device_at m g
     after_other is =
         let differ : g ≢ (guest_of event).0 = λ same. false≢true (sym is ∙ eq-eqb (guest_of event).0 g (sym same)) in
-        get_or-set_other m (guest_of event).0 g (device_after (device_at m (guest_of event).0) event) (new_device 0) differ
+        get_or-set_other m (guest_of event).0 g (device_after (device_at m (guest_of event).0) event) (new_device 0 0 no_ranges) differ
 
     said_step : (events : List Event) (b : Bool) → eqb (guest_of event).0 g ≡ b → spoken (events_said (machine_after m event) events) ≡ device_said (device_at (machine_after m event) g) (own events) → spoken (events_said m (event ∷ events)) ≡ device_said (device_at m g) (cond b (event ∷ own events) (own events))
     said_step events true is more =
@@ -86,10 +110,6 @@ module _ (g : ℕ) where
   word_spoken : (k : ℕ) (at word : ℕ) (b t : Bool) → eqb k g ≡ b → spoken (cond t [] (said.Memory (record { 0 = k }) at word ∷ [])) ≡ cond b (cond t [] (said.Memory (record { 0 = k }) at word ∷ [])) []
   word_spoken k at word b true is = neither b
   word_spoken k at word b false is = ap (λ (b : Bool). cond b (said.Memory (record { 0 = k }) at word ∷ []) []) is
-
-  cond_append : (b : Bool) (xs ys : List ReportLine) → cond b xs [] ++ cond b ys [] ≡ cond b (xs ++ ys) []
-  cond_append true xs ys = refl
-  cond_append false xs ys = refl
 
   -- what is told of a memory speaks of its guest
   words_spoken : (k : ℕ) (b : Bool) → eqb k g ≡ b → (at : ℕ) (words : List ℕ) → spoken (words_said k at words) ≡ cond b (words_said k at words) []

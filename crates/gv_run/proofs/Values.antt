@@ -13,7 +13,7 @@ use Rattle.gv_run.specs.Report.{told, events_said}
 use Rattle.gv_run.proofs.Text.{said_more}
 
 pub events_said-cons : (m : Machine) (event : Event) (events : List Event) → events_said m (event ∷ events) ≡ events_said m (event ∷ []) ++ events_said (machine_after m event) events
-events_said-cons m event events = ap (λ said. said ++ events_said (machine_after m event) events) (sym (append-nil (told event (machine_reply m event) (machine_reply m event).answer)))
+events_said-cons m event events = ap (λ said. said ++ events_said (machine_after m event) events) (sym (append-nil (told event (machine_reply m event))))
 
 module _ (guest : GuestId) (place : Place) (width : Width) (at : ℕ) (values : List ℕ) (i : ℕ) (h : i < length values) where
   abbrev left : List Event

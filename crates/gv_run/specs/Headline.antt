@@ -1,5 +1,5 @@
 -- What the program promises of a run.
-use Rattle.std.specs.Prelude.{◌≡◌, ℕ, ◌<◌, List, [], ◌∷◌, Bool, true, false, Option, length, take, codes, slice_index}
+use Rattle.std.specs.Prelude.{◌≡◌, ℕ, ◌<◌, List, [], ◌∷◌, Bool, true, false, Option, length, take, codes}
 use Rattle.std.specs.Str.{bytes_eq}
 use Rattle.std.specs.Io.KnownBytes.{Appends}
 use Rattle.gv_text.specs.Guest.{lines_of_guest}
@@ -7,7 +7,7 @@ use Rattle.gv_text.specs.Script.{script_of}
 use Rattle.gv_text.specs.declared.ending.Ending.{Ending}
 use Rattle.gv_text.specs.declared.ending.Ending.TheVariants as endings
 use Rattle.gv_run.specs.Report.{report_of}
-use Rattle.gv_run.specs.Solo.{solo, frames_of, inputs_of, is_done}
+use Rattle.gv_run.specs.Solo.{solo, guests_of, frames_of, ranges_of, inputs_of, is_done}
 use Rattle.gv_run.specs.declared.call.Status.{Status}
 use Rattle.gv_run.specs.declared.call.Status.TheVariants.{Done, BadWords, ReadFault, BadScript, TooLong, DeviceFault}
 
@@ -33,11 +33,11 @@ abbrev pub WritesPart : Option (List ℕ) → Option (List ℕ) → List ℕ →
 WritesPart old new source = (n : ℕ) × Appends old new (take n (report_of source))
 
 -- Each guest's lines of a text are the report of its own device alone: a function of its number, its
--- frames, its events, and whether the script ends with `end`.
+-- frames, its ranges, its events, and whether the script ends with `end`.
 abbrev pub IsPrivate : List ℕ → List ℕ → Type 0
 IsPrivate source text =
-    (g : ℕ) → g < length (frames_of (script_of source).lines) →
-    lines_of_guest g text ≡ solo g (slice_index (frames_of (script_of source).lines) g) (inputs_of g (script_of source).lines) (is_done (script_of source).ending)
+    (g : ℕ) → g < length (guests_of (script_of source).lines) →
+    lines_of_guest g text ≡ solo g (frames_of (script_of source).lines g) (ranges_of (script_of source).lines g) (inputs_of g (script_of source).lines) (is_done (script_of source).ending)
 
 -- what was written is such a text
 abbrev pub WritesPrivate : Option (List ℕ) → Option (List ℕ) → List ℕ → Type 0
@@ -50,12 +50,13 @@ IsOfPlay ReadFault = ⊥
 IsOfPlay DeviceFault = ⊥
 IsOfPlay status = Unit {0}
 
--- Two scripts that a guest can't tell apart: they have the guest, with the same frames and events, and
--- either both end with `end` or neither does.
+-- Two scripts that a guest can't tell apart: they have the guest, with the same frames, ranges and events,
+-- and either both end with `end` or neither does.
 pub record LooksAlike (g : ℕ) (a b : List ℕ) : Type 0 where
-  pub first : g < length (frames_of (script_of a).lines)
-  pub second : g < length (frames_of (script_of b).lines)
-  pub frames : slice_index (frames_of (script_of a).lines) g ≡ slice_index (frames_of (script_of b).lines) g
+  pub first : g < length (guests_of (script_of a).lines)
+  pub second : g < length (guests_of (script_of b).lines)
+  pub frames : frames_of (script_of a).lines g ≡ frames_of (script_of b).lines g
+  pub ranges : ranges_of (script_of a).lines g ≡ ranges_of (script_of b).lines g
   pub inputs : inputs_of g (script_of a).lines ≡ inputs_of g (script_of b).lines
   pub done : is_done (script_of a).ending ≡ is_done (script_of b).ending
 

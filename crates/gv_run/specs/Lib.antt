@@ -1,7 +1,6 @@
-pub mod Device
+pub mod Headline
 pub mod Machine
 pub mod Report
-pub mod Headline
 pub mod Solo
 pub mod Status
 pub mod Tied

@@ -1,11 +1,12 @@
 -- The report of a script: what the machine replies, line by line, and then by the ending.
-use Rattle.std.specs.Prelude.{ℕ, ◌+◌, List, [], ◌∷◌, ◌++◌, if◌then◌else◌, ◌==◌}
+use Rattle.std.specs.Prelude.{ℕ, ◌+◌, List, [], ◌∷◌, ◌++◌, Option, None, Some, if◌then◌else◌, ◌==◌}
 use Rattle.std.specs.List.{concat}
 use Rattle.gv_types.specs.Memory.{Memory}
 use Rattle.gv_types.specs.declared.event.Event.{Event}
 use Rattle.gv_types.specs.declared.event.Event.TheVariants as events
 use Rattle.gv_types.specs.declared.reply.Answer.{Answer}
 use Rattle.gv_types.specs.declared.reply.Answer.TheVariants.{Value}
+use Rattle.gv_types.specs.declared.ids.GuestId.{GuestId}
 use Rattle.gv_types.specs.declared.reply.Reply.{Reply}
 use Rattle.gv_gpu.specs.Device.{Entry}
 use Rattle.gv_text.specs.Report.{text_of}
@@ -17,14 +18,24 @@ use Rattle.gv_text.specs.declared.report_line.ReportLine.TheVariants as said
 use Rattle.gv_text.specs.declared.script_line.Line.{Line}
 use Rattle.gv_run.specs.Machine.{Machine, machine_after, machine_reply, events_of, line_after, run_lines, lines_commands}
 
--- what an event's answer is told as: a read tells its value
-abbrev pub told : Event → Reply → Answer → List ReportLine
-told (events.Read guest place width at) reply (Value value) = said.Read reply.guest place width at value ∷ []
-told event reply answer = []
+-- an interrupt that was injected, with the pending bits then
+abbrev pub irq_said : GuestId → Option ℕ → List ReportLine
+irq_said guest None = []
+irq_said guest (Some pending) = said.Irq guest pending ∷ []
+
+-- what an event's answer is told as: a read tells its value, and a function reset itself
+abbrev pub answer_said : Event → GuestId → Answer → List ReportLine
+answer_said (events.Read guest place width at) whose (Value value) = said.Read whose place width at value ∷ []
+answer_said (events.Reset guest) whose answer = said.Reset whose ∷ []
+answer_said event whose answer = []
+
+-- An interrupt comes before the event's own line.
+abbrev pub told : Event → Reply → List ReportLine
+told event reply = irq_said reply.guest reply.irq ++ answer_said event reply.guest reply.answer
 
 abbrev pub events_said : Machine → List Event → List ReportLine
 events_said m [] = []
-events_said m (event ∷ events) = told event (machine_reply m event) (machine_reply m event).answer ++ events_said (machine_after m event) events
+events_said m (event ∷ events) = told event (machine_reply m event) ++ events_said (machine_after m event) events
 
 abbrev pub lines_said : Machine → List Line → List ReportLine
 lines_said m [] = []

@@ -1,46 +1,55 @@
 -- How the machine stands in the shared device.
-use Rattle.std.specs.Prelude.{◌≡◌, ℕ, ◌%◌, ◌<◌, ◌≤◌, List, length, map, slice_index_or, Bool, false, not, Option, None, Some}
-use Rattle.gv_types.specs.declared.ids.Label.{Label}
-use Rattle.gv_types.specs.Memory.{bytes_of, all_ones}
+use Rattle.std.specs.Prelude.{◌≡◌, ◌≢◌, ℕ, ◌<◌, ◌≤◌, List, false, All, length, map, slice_index_or}
 use Rattle.gv_types.specs.declared.event.Event.{Event}
-use Rattle.gv_types.specs.declared.event.Event.TheVariants.{Read, Write}
+use Rattle.gv_types.specs.declared.event.Event.TheVariants.{Reset}
+use Rattle.gv_types.specs.declared.ranges.Ranges.{Ranges}
+use Rattle.gv_entry.specs.Ranges.{owns_page}
+use Rattle.gv_balloon.specs.Shares.{AreAmong, AreApart}
 use Rattle.gv_gpu.specs.Device.{Device}
-use Rattle.gv_gpu.specs.Part.{Part}
-use Rattle.gv_guest.specs.Placed.{Placed, Stands, memory_in, nowhere}
-use Rattle.gv_run.specs.Device.{PrivateDevice}
-use Rattle.gv_run.specs.Machine.{Machine, device_at}
+use Rattle.gv_guest.specs.Placed.{Stands, memory_in, nowhere}
+use Rattle.gv_sggtt.specs.Mirror.{IsAbsent}
 use Rattle.gv_text.specs.declared.known.Known.{Known}
+use Rattle.gv_vgpu.specs.Access.{IsAccess}
+use Rattle.gv_vgpu.specs.Holds.{Holds, private_of, number_of, ranges_of}
+use Rattle.gv_vgpu.specs.declared.vgpu.Vgpu.{Vgpu}
+use Rattle.gv_run.specs.Machine.{Machine, device_at, given_to, no_ranges}
 
--- each guest's memory stands, and further guests have no frames
-pub record Ties (d : Device) (guests : List Placed) : Type 0 where
-  pub number : (g : ℕ) (placed : Placed) → g < length guests → slice_index_or guests g placed ≡ placed → placed.guest ≡ g
-  pub stands : (g : ℕ) (placed : Placed) → g < length guests → slice_index_or guests g placed ≡ placed → Stands d placed
+-- no page of the global table is in the ranges of two guests
+abbrev pub AreAllApart : List Ranges → Type 0
+AreAllApart all = (g k : ℕ) → g ≢ k → g < length all → k < length all → AreApart (slice_index_or all g no_ranges) (slice_index_or all k no_ranges)
+
+abbrev pub all_ranges : List Vgpu → List Ranges
+all_ranges guests = map ranges_of guests
+
+-- Each guest's device holds, with ranges of its own. Further guests have no frames. A physical entry before
+-- the mediator's window that no guest owns is absent.
+pub record Ties (d : Device) (guests : List Vgpu) : Type 0 where
+  pub number : (g : ℕ) (v : Vgpu) → g < length guests → slice_index_or guests g v ≡ v → number_of v ≡ g
+  pub holds : (g : ℕ) (v : Vgpu) → g < length guests → slice_index_or guests g v ≡ v → Holds d v
+  pub apart : AreAllApart (all_ranges guests)
   pub further : (g : ℕ) → length guests ≤ g → Stands d (nowhere g)
+  pub rest : (page : ℕ) → All (λ ranges. owns_page ranges page ≡ false) (all_ranges guests) → page < 0xFC000 → IsAbsent (d.global page)
 
-abbrev pub device_in : Device → Placed → PrivateDevice
-device_in d placed = record { memory = memory_in d placed }
+-- the machine that the guests' devices stand for
+abbrev pub machine_in : Device → List Vgpu → Machine
+machine_in d guests = map (private_of d) guests
 
--- the machine that the guests' pages hold
-abbrev pub machine_in : Device → List Placed → Machine
-machine_in d guests = map (device_in d) guests
+-- no command ran, and no step touched a page of another guest
+pub record RanNothing (d e : Device) : Type 0 where
+  pub journal : e.journal ≡ d.journal
+  pub strays : e.strays ≡ d.strays
 
--- the pages of all frames
-abbrev pub is_frame : Option Label → Bool
-is_frame None = false
-is_frame (Some l) = not l.shadow
+-- an event of a guest's: an access or a function reset
+abbrev pub IsGuestEvent : Event → Type 0
+IsGuestEvent (Reset guest) = Unit {0}
+IsGuestEvent event = IsAccess event
 
-abbrev pub all_frames : Part
-all_frames = record { page = λ _ l. is_frame l; entry = λ _. false; engine = λ _. false; spare = false }
-
--- an access whose address is aligned and whose value fits
-abbrev pub IsAccess : Event → Type 0
-IsAccess (Read guest place width at) = at % bytes_of width ≡ 0
-IsAccess (Write guest place width at value) = (at % bytes_of width ≡ 0) × (value ≤ all_ones width)
-IsAccess event = Unit {0}
-
--- The guests are those that are known, with the frames that are known; nothing else is live.
-pub record Agrees (d : Device) (known : Known) (guests : List Placed) : Type 0 where
+-- The guests are those that are known, with the frames and the pages of the global table that are known;
+-- nothing else is live.
+pub record Agrees (d : Device) (known : Known) (guests : List Vgpu) : Type 0 where
   pub ties : Ties d guests
+  pub given : given_to (all_ranges guests) ≡ known.given
+  pub among : All (AreAmong known.given) (all_ranges guests)
   pub count : length guests ≡ known.guests
   pub live : d.live ≡ known.frames
   pub few : known.frames ≤ 16384

@@ -3,10 +3,9 @@ ghost use Rattle.std.specs.Io.KnownBytes.{Appends};
 ghost use Rattle.gv_outside.specs.Causes.{Rose};
 ghost use Rattle.gv_gpu.specs.Device.{IsEmpty};
 ghost use Rattle.gv_run.specs.Report.{report_of, ending_of, machine_of, commands_in};
-ghost use Rattle.gv_gpu.specs.Part.{outside};
 ghost use Rattle.gv_text.specs.Script.{script_limit};
 ghost use Rattle.gv_run.specs.Headline.{is_run, status_of, tells_ending, WritesPart, WritesPrivate, IsOfPlay};
-ghost use Rattle.gv_run.specs.Tied.{Keeps, all_frames};
+ghost use Rattle.gv_run.specs.Tied.{Keeps, RanNothing};
 
 use crate::script::{LIMIT, run_script};
 use gv_gpu::Gpu;
@@ -91,7 +90,7 @@ fn play<K: Sink, G: Gpu>(alloc: Global, text: &[u8], sink: &mut K, gpu: &mut G) 
     ensures report { tells_ending result ≡ true → Appends (K.held sink.old) (K.held sink.new) (report_of text.now) }
     ensures part { WritesPart (K.held sink.old) (K.held sink.new) text.now }
     ensures pages { result ≡ Status.Done → Keeps (G.state gpu.new) (machine_of text.now) }
-    ensures outside { outside all_frames (G.state gpu.new) ≡ outside all_frames (G.state gpu.old) }
+    ensures ran { RanNothing (G.state gpu.old) (G.state gpu.new) }
     ensures write { result ≡ Status.WriteFault → Rose (K.faults sink.old) (K.faults sink.new) }
     ensures only { IsOfPlay result }
 {

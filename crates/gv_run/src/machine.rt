@@ -1,90 +1,88 @@
-ghost use Rattle.std.specs.Prelude.{◌≡◌, ℕ, ◌%◌, ◌<◌, ◌≤◌, length, None};
-ghost use Rattle.gv_types.specs.Memory.{bytes_of, all_ones, memory_read};
-ghost use Rattle.gv_types.specs.declared.event.Event.TheVariants.{Write};
-ghost use Rattle.gv_types.specs.declared.event.Place.TheVariants as places;
-ghost use Rattle.gv_gpu.specs.Part.{outside};
-ghost use Rattle.gv_run.specs.Device.{guest_of};
-ghost use Rattle.gv_run.specs.Machine.{device_at, machine_after, machine_reply};
-ghost use Rattle.gv_run.specs.Tied.{Ties, IsAccess, machine_in, all_frames};
+ghost use Rattle.std.specs.Prelude.{◌≡◌, ◌<◌, length, map, None};
+ghost use Rattle.gv_vgpu.specs.Access.{IsAccess};
+ghost use Rattle.gv_vgpu.specs.Step.{guest_of};
+ghost use Rattle.gv_types.specs.declared.event.Event.TheVariants.{Reset};
+ghost use Rattle.gv_run.specs.Machine.{machine_after, machine_reply};
+ghost use Rattle.gv_run.specs.Tied.{Ties, RanNothing, IsGuestEvent, machine_in, all_ranges};
 
 use gv_gpu::Gpu;
-use gv_guest::Memory;
-use gv_types::{Answer, Event, GuestId, Place, Reply, Width};
+use gv_types::{Answer, Event, GuestId, Reply};
+use gv_vgpu::Vgpu;
 
-// What an aligned read of a guest's memory gives.
-fn read<G: Gpu>(gpu: &G, guests: &[Memory], guest: GuestId, width: Width, at: u64) -> u64
-    requires ties { Ties (G.state gpu.now) guests.now }
-    requires there { guest.0 < length guests.now }
-    requires aligned { at % bytes_of width ≡ 0 }
-    ensures { result ≡ memory_read (device_at (machine_in (G.state gpu.now) guests.now) guest.0).memory width at }
-{
-    guests[guest.0 as usize].read(gpu, at, width)
+// Guest 0 owns every engine.
+fn engines_of(guest: GuestId) -> [bool; 4] {
+    [guest.0 == 0; 4]
 }
 
-// An aligned write to a guest's memory.
-fn write<G: Gpu>(gpu: &mut G, guests: &[Memory], guest: GuestId, width: Width, at: u64, value: u64)
-    requires ties { Ties (G.state gpu.old) guests.now }
-    requires there { guest.0 < length guests.now }
-    requires aligned { at % bytes_of width ≡ 0 }
-    requires fits { value ≤ all_ones width }
-    ensures ties { Ties (G.state gpu.new) guests.now }
-    ensures machine { machine_in (G.state gpu.new) guests.now
-        ≡ machine_after (machine_in (G.state gpu.old) guests.now) (Write guest places.Memory width at value) }
-    ensures outside { outside all_frames (G.state gpu.new) ≡ outside all_frames (G.state gpu.old) }
+// Whose event it is.
+fn guest_of(event: &Event) -> GuestId
+    ensures { result ≡ guest_of event.now }
+{
+    match event {
+        Event::Read { guest, .. } => *guest,
+        Event::Write { guest, .. } => *guest,
+        Event::Move { guest, .. } => *guest,
+        Event::Reset { guest } => *guest,
+        Event::Turn { .. } => GuestId(0),
+        Event::Switch { .. } => GuestId(0),
+    }
+}
+
+// A read or a write of a guest's.
+fn access<G: Gpu>(gpu: &mut G, guests: &mut [Vgpu], guest: GuestId, event: &Event) -> Reply
+    requires ties { Ties (G.state gpu.old) guests.old }
+    requires there { guest.0 < length guests.old }
+    requires own { guest_of event.now ≡ guest }
+    requires access { IsAccess event.now }
+    ensures reply { result ≡ machine_reply (machine_in (G.state gpu.old) guests.old) event.now }
+    ensures ties { Ties (G.state gpu.new) guests.new }
+    ensures machine { machine_in (G.state gpu.new) guests.new ≡ machine_after (machine_in (G.state gpu.old) guests.old) event.now }
+    ensures ranges { all_ranges guests.new ≡ all_ranges guests.old }
+    ensures ran { RanNothing (G.state gpu.old) (G.state gpu.new) }
     ensures live { (G.state gpu.new).live ≡ (G.state gpu.old).live }
 {
-    guests[guest.0 as usize].write(gpu, at, width, value)
+    guests[guest.0 as usize]
+        .access(gpu, engines_of(guest), event)
+        .unwrap()
 }
 
-// A reply without an interrupt and without a failsafe.
-fn replied(guest: GuestId, answer: Answer) -> Reply
-    ensures { result ≡ record { guest = guest; answer = answer; irq = None; failsafe = None } }
+// A function reset of a guest's.
+fn reset<G: Gpu>(gpu: &mut G, guests: &mut [Vgpu], guest: GuestId)
+    requires ties { Ties (G.state gpu.old) guests.old }
+    requires there { guest.0 < length guests.old }
+    ensures ties { Ties (G.state gpu.new) guests.new }
+    ensures machine { machine_in (G.state gpu.new) guests.new ≡ machine_after (machine_in (G.state gpu.old) guests.old) (Reset guest) }
+    ensures ranges { all_ranges guests.new ≡ all_ranges guests.old }
+    ensures ran { RanNothing (G.state gpu.old) (G.state gpu.new) }
+    ensures live { (G.state gpu.new).live ≡ (G.state gpu.old).live }
 {
-    Reply {
-        guest,
-        answer,
-        irq: None,
-        failsafe: None,
-    }
+    guests[guest.0 as usize]
+        .reset(gpu, engines_of(guest))
+        .unwrap()
 }
 
 /// One event of a guest that is there: the reply is that of the machine, which is as after the
 /// event then.
-pub fn event<G: Gpu>(gpu: &mut G, guests: &[Memory], event: &Event) -> Reply
-    requires ties { Ties (G.state gpu.old) guests.now }
-    requires there { (guest_of event.now).0 < length guests.now }
-    requires access { IsAccess event.now }
-    ensures reply { result ≡ machine_reply (machine_in (G.state gpu.old) guests.now) event.now }
-    ensures ties { Ties (G.state gpu.new) guests.now }
-    ensures machine { machine_in (G.state gpu.new) guests.now ≡ machine_after (machine_in (G.state gpu.old) guests.now) event.now }
-    ensures outside { outside all_frames (G.state gpu.new) ≡ outside all_frames (G.state gpu.old) }
+pub fn event<G: Gpu>(gpu: &mut G, guests: &mut [Vgpu], event: &Event) -> Reply
+    requires ties { Ties (G.state gpu.old) guests.old }
+    requires there { (guest_of event.now).0 < length guests.old }
+    requires kind { IsGuestEvent event.now }
+    ensures reply { result ≡ machine_reply (machine_in (G.state gpu.old) guests.old) event.now }
+    ensures ties { Ties (G.state gpu.new) guests.new }
+    ensures machine { machine_in (G.state gpu.new) guests.new ≡ machine_after (machine_in (G.state gpu.old) guests.old) event.now }
+    ensures ranges { all_ranges guests.new ≡ all_ranges guests.old }
+    ensures ran { RanNothing (G.state gpu.old) (G.state gpu.new) }
     ensures live { (G.state gpu.new).live ≡ (G.state gpu.old).live }
 {
-    match event {
-        Event::Read {
+    let guest = guest_of(event);
+    if let Event::Reset { .. } = event {
+        reset(gpu, guests, guest);
+        return Reply {
             guest,
-            place: Place::Memory,
-            width,
-            at,
-        } => replied(
-            *guest,
-            Answer::Value(read(gpu, guests, *guest, *width, *at)),
-        ),
-        Event::Write {
-            guest,
-            place: Place::Memory,
-            width,
-            at,
-            value,
-        } => {
-            write(gpu, guests, *guest, *width, *at, *value);
-            replied(*guest, Answer::Nothing)
-        }
-        Event::Read { guest, .. } => replied(*guest, Answer::Nothing),
-        Event::Write { guest, .. } => replied(*guest, Answer::Nothing),
-        Event::Move { guest, .. } => replied(*guest, Answer::Nothing),
-        Event::Reset { guest } => replied(*guest, Answer::Nothing),
-        Event::Turn { .. } => replied(GuestId(0), Answer::Nothing),
-        Event::Switch { .. } => replied(GuestId(0), Answer::Nothing),
+            answer: Answer::Nothing,
+            irq: None,
+            failsafe: None,
+        };
     }
+    access(gpu, guests, guest, event)
 }

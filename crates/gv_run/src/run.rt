@@ -1,22 +1,24 @@
 ghost use Rattle.std.specs.Prelude.{◌≡◌, ℕ, ◌+◌, ◌*◌, ◌/◌, ◌%◌, ◌^◌, ◌<◌, ◌≤◌, ◌++◌, length, OnOk, IfSome, true, option_to_list, [], ◌∷◌};
 ghost use Rattle.gv_types.specs.Memory.{bytes_of, all_ones};
-ghost use Rattle.gv_gpu.specs.Part.{outside};
 ghost use Rattle.gv_guest.specs.Placed.{Stands, memory_in};
-ghost use Rattle.gv_text.specs.Grammar.{IsForm, value_limit};
+ghost use Rattle.gv_text.specs.Grammar.{IsForm, value_limit, end_of};
 ghost use Rattle.gv_text.specs.Report.{report_text, text_of, IsPrintable};
-ghost use Rattle.gv_text.specs.Script.{nothing_known, has_room, accepts, known_after};
+ghost use Rattle.gv_text.specs.Script.{nothing_known, has_room, accepts, known_after, want_of};
 ghost use Rattle.gv_text.specs.declared.script_line.Line.TheVariants.{Guest as GuestLine};
 ghost use Rattle.std.specs.List.{AllByRecursion};
-ghost use Rattle.gv_run.specs.Device.{guest_of, new_device};
-ghost use Rattle.gv_run.specs.Machine.{machine_after, machine_reply, writes_of, run_events, events_of, line_after};
-ghost use Rattle.gv_run.specs.Report.{told, events_said, words_said, memory_said, memories_said, ending_said};
-ghost use Rattle.gv_run.specs.Tied.{Ties, Agrees, IsAccess, machine_in, all_frames};
+ghost use Rattle.gv_balloon.specs.Shares.{next_ranges};
+ghost use Rattle.gv_vgpu.specs.Device.{new_device};
+ghost use Rattle.gv_vgpu.specs.Step.{guest_of};
+ghost use Rattle.gv_run.specs.Machine.{machine_after, writes_of, run_events, events_of, line_after, given_to, ranges_in};
+ghost use Rattle.gv_run.specs.Report.{irq_said, answer_said, told, events_said, words_said, memory_said, memories_said, ending_said};
+ghost use Rattle.gv_run.specs.Tied.{Ties, Agrees, RanNothing, IsGuestEvent, machine_in};
 
 use crate::machine;
 use gv_gpu::Gpu;
 use gv_guest::Memory;
 use gv_text::{Ending, Guest, Known, Line, ReportLine, print};
 use gv_types::{Answer, Event, GuestId, OutOfMemory, Place, Reply, Width};
+use gv_vgpu::Vgpu;
 use std::alloc::Global;
 
 // Writes a line at the report's end.
@@ -29,10 +31,22 @@ fn tell(report: &mut Vec<u8>, line: &ReportLine) -> Result<(), OutOfMemory>
     Ok(())
 }
 
-// What is told of an event.
-fn told_line(event: &Event, reply: &Reply) -> Option<ReportLine>
-    ensures value { option_to_list result ≡ told event.now reply.now reply.now.answer }
-    ensures printable { reply.now.guest.0 < 8 → IfSome result IsPrintable }
+// Tells an interrupt that was injected, with the pending bits then.
+#[tactic(auto, using(crate::proofs::Text::said_none))]
+fn tell_irq(report: &mut Vec<u8>, guest: GuestId, irq: Option<u32>) -> Result<(), OutOfMemory>
+    requires { guest.0 < 8 }
+    ensures { OnOk result (report.new.items ≡ report.old.items ++ text_of (irq_said guest irq)) }
+{
+    match irq {
+        Some(value) => tell(report, &ReportLine::Irq { guest, value }),
+        None => Ok(()),
+    }
+}
+
+// The event's own line, by its answer.
+fn answer_line(event: &Event, guest: GuestId, answer: Answer) -> Option<ReportLine>
+    ensures value { option_to_list result ≡ answer_said event.now guest answer }
+    ensures printable { guest.0 < 8 → IfSome result IsPrintable }
 {
     match event {
         Event::Read {
@@ -40,9 +54,9 @@ fn told_line(event: &Event, reply: &Reply) -> Option<ReportLine>
             width,
             at,
             ..
-        } => match reply.answer {
+        } => match answer {
             Answer::Value(value) => Some(ReportLine::Read {
-                guest: reply.guest,
+                guest,
                 place: *place,
                 width: *width,
                 at: *at,
@@ -50,23 +64,36 @@ fn told_line(event: &Event, reply: &Reply) -> Option<ReportLine>
             }),
             _ => None,
         },
+        Event::Reset { .. } => Some(ReportLine::Reset { guest }),
         Event::Write { .. } => None,
         Event::Turn { .. } => None,
         Event::Switch { .. } => None,
         Event::Move { .. } => None,
-        Event::Reset { .. } => None,
+    }
+}
+
+fn tell_answer(
+    report: &mut Vec<u8>,
+    event: &Event,
+    guest: GuestId,
+    answer: Answer,
+) -> Result<(), OutOfMemory>
+    requires { guest.0 < 8 }
+    ensures { OnOk result (report.new.items ≡ report.old.items ++ text_of (answer_said event.now guest answer)) }
+{
+    match answer_line(event, guest, answer) {
+        Some(line) => tell(report, &line),
+        None => Ok(()),
     }
 }
 
 // Writes what is told of an event.
 fn tell_reply(report: &mut Vec<u8>, event: &Event, reply: &Reply) -> Result<(), OutOfMemory>
     requires { reply.now.guest.0 < 8 }
-    ensures { OnOk result (report.new.items ≡ report.old.items ++ text_of (told event.now reply.now reply.now.answer)) }
+    ensures { OnOk result (report.new.items ≡ report.old.items ++ text_of (told event.now reply.now)) }
 {
-    match told_line(event, reply) {
-        Some(line) => tell(report, &line),
-        None => Ok(()),
-    }
+    tell_irq(report, reply.guest, reply.irq)?;
+    tell_answer(report, event, reply.guest, reply.answer)
 }
 
 // Tells a word of memory, unless it is 0.
@@ -100,26 +127,22 @@ fn tell_memory<G: Gpu>(
 }
 
 // Tells the memory of all guests, in order.
-fn tell_memories<G: Gpu>(
-    report: &mut Vec<u8>,
-    gpu: &G,
-    guests: &[Memory],
-) -> Result<(), OutOfMemory>
+fn tell_memories<G: Gpu>(report: &mut Vec<u8>, gpu: &G, guests: &[Vgpu]) -> Result<(), OutOfMemory>
     requires ties { Ties (G.state gpu.now) guests.now }
     requires few { length guests.now ≤ 8 }
     ensures { OnOk result (report.new.items ≡ report.old.items ++ text_of (memories_said 0 (machine_in (G.state gpu.now) guests.now))) }
 {
-    for (number, memory) in guests.iter().enumerate() {
-        tell_memory(report, gpu, GuestId(number as u8), memory)?;
+    for (number, guest) in guests.iter().enumerate() {
+        tell_memory(report, gpu, GuestId(number as u8), guest.memory())?;
     }
     Ok(())
 }
 
-/// A script that runs: what its lines have settled, the guests' memories, and the report so far.
+/// A script that runs: what its lines have settled, the guests' devices, and the report so far.
 #[derive(Drop)]
 pub struct Run {
     pub known: Known,
-    pub guests: Vec<Memory>,
+    pub guests: Vec<Vgpu>,
     pub report: Vec<u8>,
 }
 
@@ -141,16 +164,16 @@ impl Run {
     fn event<G: Gpu>(&mut self, gpu: &mut G, event: &Event) -> Result<(), OutOfMemory>
         requires agrees { Agrees (G.state gpu.old) self.old.known self.old.guests.items }
         requires there { (guest_of event.now).0 < self.old.known.guests }
-        requires access { IsAccess event.now }
+        requires kind { IsGuestEvent event.now }
         ensures agrees { Agrees (G.state gpu.new) self.new.known self.new.guests.items }
-        ensures kept { self.new ≡ record self.old { report = self.new.report } }
+        ensures known { self.new.known ≡ self.old.known }
         ensures machine { machine_in (G.state gpu.new) self.new.guests.items
             ≡ machine_after (machine_in (G.state gpu.old) self.old.guests.items) event.now }
         ensures report { OnOk result (self.new.report.items ≡ self.old.report.items
             ++ text_of (events_said (machine_in (G.state gpu.old) self.old.guests.items) (event.now ∷ []))) }
-        ensures outside { outside all_frames (G.state gpu.new) ≡ outside all_frames (G.state gpu.old) }
+        ensures ran { RanNothing (G.state gpu.old) (G.state gpu.new) }
     {
-        let reply = machine::event(gpu, &self.guests, event);
+        let reply = machine::event(gpu, &mut self.guests, event);
         tell_reply(&mut self.report, event, &reply)
     }
 
@@ -167,15 +190,15 @@ impl Run {
         requires agrees { Agrees (G.state gpu.old) self.old.known self.old.guests.items }
         requires there { guest.0 < self.old.known.guests }
         requires aligned { at % bytes_of width ≡ 0 }
-        requires within { at + bytes_of width * length values.now ≤ 2 ^ 64 }
+        requires within { at + bytes_of width * length values.now ≤ end_of place }
         requires fit { AllByRecursion (λ value. value < value_limit width) values.now }
         ensures agrees { Agrees (G.state gpu.new) self.new.known self.new.guests.items }
-        ensures kept { self.new ≡ record self.old { report = self.new.report } }
+        ensures known { self.new.known ≡ self.old.known }
         ensures machine { OnOk result (machine_in (G.state gpu.new) self.new.guests.items
             ≡ run_events (machine_in (G.state gpu.old) self.old.guests.items) (writes_of guest place width at values.now)) }
         ensures report { OnOk result (self.new.report.items ≡ self.old.report.items
             ++ text_of (events_said (machine_in (G.state gpu.old) self.old.guests.items) (writes_of guest place width at values.now))) }
-        ensures outside { outside all_frames (G.state gpu.new) ≡ outside all_frames (G.state gpu.old) }
+        ensures ran { RanNothing (G.state gpu.old) (G.state gpu.new) }
     {
         for (index, value) in values.iter().enumerate() {
             let write = Event::Write {
@@ -199,15 +222,20 @@ impl Run {
     ) -> Result<(), OutOfMemory>
         requires agrees { Agrees (G.state gpu.old) self.old.known self.old.guests.items }
         requires room { has_room self.old.known guest.now ≡ true }
+        requires some { 0 < guest.now.frames }
         ensures agrees { OnOk result (Agrees (G.state gpu.new) (known_after self.old.known (GuestLine guest.now)) self.new.guests.items) }
-        ensures kept { self.new ≡ record self.old { guests = self.new.guests } }
+        ensures known { self.new.known ≡ self.old.known }
+        ensures report { self.new.report ≡ self.old.report }
         ensures machine { OnOk result (machine_in (G.state gpu.new) self.new.guests.items
-            ≡ machine_in (G.state gpu.old) self.old.guests.items ++ new_device guest.now.frames ∷ []) }
-        ensures outside { outside all_frames (G.state gpu.new) ≡ outside all_frames (G.state gpu.old) }
+            ≡ machine_in (G.state gpu.old) self.old.guests.items
+            ++ new_device self.old.known.guests guest.now.frames (next_ranges self.old.known.given (want_of guest.now)) ∷ []) }
+        ensures ran { RanNothing (G.state gpu.old) (G.state gpu.new) }
     {
         self.guests.reserve(1)?;
-        let memory = Memory::new(alloc, gpu, GuestId(self.known.guests), guest.frames)?;
-        self.guests.push(memory).unwrap();
+        let number = GuestId(self.known.guests);
+        let ranges = self.known.given.next(&guest.want());
+        let device = Vgpu::new(alloc, gpu, number, guest.frames, ranges)?;
+        self.guests.push(device).unwrap();
         Ok(())
     }
 
@@ -223,7 +251,7 @@ impl Run {
             ≡ line_after (machine_in (G.state gpu.old) self.old.guests.items) line.now) }
         ensures report { OnOk result (self.new.report.items ≡ self.old.report.items
             ++ text_of (events_said (machine_in (G.state gpu.old) self.old.guests.items) (events_of line.now))) }
-        ensures outside { outside all_frames (G.state gpu.new) ≡ outside all_frames (G.state gpu.old) }
+        ensures ran { RanNothing (G.state gpu.old) (G.state gpu.new) }
     {
         match line {
             Line::Guest(guest) => self.guest(alloc, gpu, guest),
@@ -251,12 +279,17 @@ impl Run {
                 let guest = GuestId(*guest);
                 self.writes(gpu, guest, *place, *width, *at, values.as_slice())
             }
+            Line::Reset { guest } => {
+                let reset = Event::Reset {
+                    guest: GuestId(*guest),
+                };
+                self.event(gpu, &reset)
+            }
             Line::Blank => Ok(()),
             Line::Elsp { .. } => Ok(()),
             Line::Turn { .. } => Ok(()),
             Line::Switch { .. } => Ok(()),
             Line::Move { .. } => Ok(()),
-            Line::Reset { .. } => Ok(()),
             Line::End => Ok(()),
         }
     }
@@ -277,7 +310,7 @@ impl Run {
             ≡ line_after (machine_in (G.state gpu.old) self.old.guests.items) line.now) }
         ensures report { OnOk result (self.new.report.items ≡ self.old.report.items
             ++ text_of (events_said (machine_in (G.state gpu.old) self.old.guests.items) (events_of line.now))) }
-        ensures outside { outside all_frames (G.state gpu.new) ≡ outside all_frames (G.state gpu.old) }
+        ensures ran { RanNothing (G.state gpu.old) (G.state gpu.new) }
     {
         self.act(alloc, gpu, line)?;
         self.known = self.known.after(line);

@@ -1,11 +1,10 @@
 ghost use Rattle.std.specs.Prelude.{◌≡◌, ◌++◌, ◌^◌, ◌<◌, length, OnOk, IfOk, [], ◌≤◌};
 ghost use Rattle.gv_gpu.specs.Device.{IsEmpty};
-ghost use Rattle.gv_gpu.specs.Part.{outside};
 ghost use Rattle.gv_text.specs.Report.{text_of};
 ghost use Rattle.gv_text.specs.Script.{script_in, script_of, script_limit, nothing_known};
 ghost use Rattle.gv_run.specs.Machine.{run_lines};
 ghost use Rattle.gv_run.specs.Report.{lines_said, script_said, report_of, ending_of, machine_of};
-ghost use Rattle.gv_run.specs.Tied.{Agrees, Keeps, machine_in, all_frames};
+ghost use Rattle.gv_run.specs.Tied.{Agrees, Keeps, RanNothing, machine_in};
 
 use crate::run::Run;
 use gv_gpu::Gpu;
@@ -33,7 +32,7 @@ fn run_lines<G: Gpu>(
         ≡ run_lines (machine_in (G.state gpu.old) run.old.guests.items) (script_in whole text.now).lines) }
     ensures report { OnOk result (run.new.report.items ≡ run.old.report.items
         ++ text_of (lines_said (machine_in (G.state gpu.old) run.old.guests.items) (script_in whole text.now).lines)) }
-    ensures outside { outside all_frames (G.state gpu.new) ≡ outside all_frames (G.state gpu.old) }
+    ensures ran { RanNothing (G.state gpu.old) (G.state gpu.new) }
 {
     let mut rest = text;
     let mut number = 1u64;
@@ -74,7 +73,7 @@ fn run_text<G: Gpu>(
     ensures report { IfOk result (λ f. f.report.items ≡ text_of (script_said [] (script_in whole text.now))) }
     ensures ending { IfOk result (λ f. f.ending ≡ (script_in whole text.now).ending) }
     ensures pages { OnOk result (Keeps (G.state gpu.new) (run_lines [] (script_in whole text.now).lines)) }
-    ensures outside { outside all_frames (G.state gpu.new) ≡ outside all_frames (G.state gpu.old) }
+    ensures ran { RanNothing (G.state gpu.old) (G.state gpu.new) }
 {
     let mut run = Run::new(alloc);
     let ending = run_lines(alloc, gpu, &mut run, text, whole)?;
@@ -106,7 +105,7 @@ pub fn run_script<G: Gpu>(alloc: Global, gpu: &mut G, text: &[u8]) -> Result<Fin
     ensures report { IfOk result (λ f. f.report.items ≡ report_of text.now) }
     ensures ending { IfOk result (λ f. f.ending ≡ ending_of text.now) }
     ensures pages { OnOk result (Keeps (G.state gpu.new) (machine_of text.now)) }
-    ensures outside { outside all_frames (G.state gpu.new) ≡ outside all_frames (G.state gpu.old) }
+    ensures ran { RanNothing (G.state gpu.old) (G.state gpu.new) }
 {
     let (front, whole) = judged(text, LIMIT);
     let finished = run_text(alloc, gpu, front, whole)?;

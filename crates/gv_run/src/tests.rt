@@ -3,7 +3,7 @@
 ghost use Rattle.std.specs.Prelude.{◌<◌};
 
 use crate::{Status, mediate};
-use gv_gpu::SoftGpu;
+use gv_engine::SoftGpu;
 use gv_outside::{MemorySink, MemorySource};
 use std::alloc::Global;
 use std::test::Fail;
@@ -15,7 +15,7 @@ struct Row {
     report: &'static str,
 }
 
-const ROWS: [Row; 14] = [
+const ROWS: [Row; 20] = [
     Row {
         name: "write and read",
         script: "guest 1 0 0\nw4 0 10 7\nr4 0 10\nend\n",
@@ -99,6 +99,42 @@ const ROWS: [Row; 14] = [
         script: "guest 1 0 0\nw8 0 8 1122334455667788\nw4 0 c aabbccdd\nr4 0 8\nr4 0 c\nr8 0 8\nend\n",
         status: Status::Done,
         report: "0 r4 8 55667788\n0 r4 c aabbccdd\n0 r8 8 aabbccdd55667788\n0 mem 8 aabbccdd55667788\ndone\n",
+    },
+    Row {
+        name: "a global entry in halves",
+        script: "guest 2 1 0\nw4 0 1000 55\no4 0 800000 1001\na4 0 0\no4 0 800004 1\na4 0 0\no4 0 800004 0\na4 0 0\ni8 0 800000\nend\n",
+        status: Status::Done,
+        report: "0 a4 0 55\n0 a4 0 0\n0 a4 0 55\n0 i8 800000 1001\n0 mem 1000 55\ndone\n",
+    },
+    Row {
+        name: "the PVINFO page",
+        script: "guest 20 10 8\nguest 20 10 8\ni8 1 78000\ni4 1 78008\ni4 1 7800c\ni4 1 78010\ni4 1 78040\ni4 1 78044\ni4 1 78048\ni4 1 7804c\nend\n",
+        status: Status::Done,
+        report: "1 i8 78000 4776544776544776\n1 i4 78008 1\n1 i4 7800c 2\n1 i4 78010 c\n1 i4 78040 10000\n1 i4 78044 10000\n1 i4 78048 10008000\n1 i4 7804c 8000\ndone\n",
+    },
+    Row {
+        name: "an engine reset and a function reset",
+        script: "guest 1 0 0\no4 0 2030 5\ni4 0 2030\no4 0 44304 0\ni4 0 44304\no4 0 44304 1\no4 0 941c 2\ni4 0 2030\ni4 0 44304\ni4 0 12030\nreset 0\ni4 0 44304\nend\n",
+        status: Status::Done,
+        report: "0 i4 2030 5\n0 i4 44304 0\n0 i4 2030 0\n0 i4 44304 1\n0 i4 12030 0\n0 reset\n0 i4 44304 ffffffff\ndone\n",
+    },
+    Row {
+        name: "the aperture reaches the low range alone",
+        script: "guest 2 1 1\nw8 0 1008 1122334455667788\no8 0 800000 1003 0\no8 0 880000 1001\na8 0 8\na4 0 c\nb4 0 8 9\na4 0 1000\na8 0 10000008\nb8 0 10000008 5\nr8 0 1008\nb8 0 0 6 7\nr8 0 1008\nend\n",
+        status: Status::Done,
+        report: "0 a8 8 1122334455667788\n0 a4 c 11223344\n0 a4 1000 0\n0 a8 10000008 0\n0 r8 1008 1122334400000009\n0 r8 1008 7\n0 mem 1000 6\n0 mem 1008 7\ndone\n",
+    },
+    Row {
+        name: "interrupts by IER and by master",
+        script: "guest 1 0 0\no8 0 44308 ffffffff00000000\no4 0 44200 80000000\ni4 0 44200\ni8 0 44308\no4 0 44200 0\ni4 0 44200\nend\n",
+        status: Status::Done,
+        report: "0 i4 44200 80000000\n0 i8 44308 ffffffff00000000\n0 i4 44200 0\ndone\n",
+    },
+    Row {
+        name: "two guests have entries of their own",
+        script: "guest 2 1 0\nguest 2 1 0\no8 0 800000 1001\ni8 1 800000\no8 1 800000 1001\ni8 0 800008\no8 1 800008 1001\nw4 1 1000 5\na4 1 1000\na4 1 0\na4 0 0\nreset 1\na4 1 1000\ni8 0 800000\nend\n",
+        status: Status::Done,
+        report: "1 i8 800000 0\n0 i8 800008 0\n1 a4 1000 5\n1 a4 0 0\n0 a4 0 0\n1 reset\n1 a4 1000 0\n0 i8 800000 1001\n1 mem 1000 5\ndone\n",
     },
 ];
 

@@ -1,14 +1,10 @@
 -- No line has more than 19 words.
-use Rattle.std.proofs.Common.{◌≡◌, ℕ, suc, ◌<◌, List, [], ◌∷◌, Option, Some, None, Bool, false, length, refl, ap, arith, IfSome, nat_le, ◌&&◌, if◌then◌else◌, codes}
-use Rattle.std.proofs.lemmas.Bool.{cond_both}
+use Rattle.std.proofs.Common.{◌≡◌, ℕ, suc, ◌<◌, List, [], ◌∷◌, Option, Some, None, Bool, false, length, refl, ap, arith, IfSome, nat_le, ◌&&◌}
 use Rattle.gv_types.specs.declared.event.Width.{Width}
-use Rattle.gv_types.specs.declared.event.Width.TheVariants.{Four, Eight}
 use Rattle.gv_types.specs.declared.event.Place.{Place}
-use Rattle.gv_types.specs.declared.event.Place.TheVariants as places
-use Rattle.std.specs.Str.{bytes_eq}
 use Rattle.std.proofs.lemmas.Bool.Decides.{nat_tests}
 use Rattle.gv_text.specs.Number.{◌>>=◌, number_below, check}
-use Rattle.gv_text.specs.Grammar.{value_limit, values_of, address_of, write_line, more_words, line_of_words}
+use Rattle.gv_text.specs.Grammar.{value_limit, values_of, address_of, write_access, write_line, more_words, line_of_words}
 use Rattle.gv_text.specs.declared.script_line.Line.{Line}
 
 module _ {A B : Type 0} where
@@ -29,25 +25,20 @@ pub length-values_of : (width : Width) (ws : List (List ℕ)) → IfSome (values
 length-values_of width [] = refl
 length-values_of width (w ∷ ws) = longer (number_below (value_limit width) w) (values_of width ws) (length ws) (length-values_of width ws)
 
-many_refused : (vs : List ℕ) (b : Bool) (line : Line) → 16 < length vs → check (nat_le (length vs) 16 && b) line ≡ None
-many_refused vs b line many =
+many_refused : (vs : List ℕ) (b d : Bool) (line : Line) → 16 < length vs → check (nat_le (length vs) 16 && b && d) line ≡ None
+many_refused vs b d line many =
     let test : nat_le (length vs) 16 ≡ false = grind (arith, nat_tests) in
-    ap (λ t. check (t && b) line) test
-
-IsNone-if : (b : Bool) (x y : Option Line) → x ≡ None → y ≡ None → (if b then x else y) ≡ None
-IsNone-if b x y first second = cond_both b x y (λ o. o ≡ None) (λ _. first) (λ _. second)
+    ap (λ t. check (t && b && d) line) test
 
 write_line-many : (place : Place) (width : Width) (g a : List ℕ) (ws : List (List ℕ)) → 16 < length ws → write_line place width g a ws ≡ None
 write_line-many place width g a ws many =
     always_none (number_below 8 g) _ (λ guest.
     always_none (address_of place width a) _ (λ at.
     bind_none (λ vs. length vs ≡ length ws) (values_of width ws) _ (length-values_of width ws) (λ vs same.
-    many_refused vs _ _ (omega arith))))
+    many_refused vs _ _ _ (omega arith))))
 
 more_words-many : (w g a : List ℕ) (vs : List (List ℕ)) → 16 < length vs → more_words w g a vs ≡ None
-more_words-many w g a vs many =
-    IsNone-if (bytes_eq w (codes "w4")) _ _ (write_line-many places.Memory Four g a vs many)
-    (IsNone-if (bytes_eq w (codes "w8")) _ None (write_line-many places.Memory Eight g a vs many) refl)
+more_words-many w g a vs many = always_none (write_access w) _ (λ (place, width). write_line-many place width g a vs many)
 
 pub line_of_words-many : (ws : List (List ℕ)) → 19 < length ws → line_of_words ws ≡ None
 line_of_words-many [] many = absurd (omega arith)

@@ -1,7 +1,7 @@
 -- The lines of a script. A line has at most 256 bytes; its words are separated by one space, with
 -- none before the first and none after the last. A line that is empty or begins with # says nothing.
 -- A form of line that isn't here is refused.
-use Rattle.std.specs.Prelude.{ℕ, ◌+◌, ◌-◌, ◌*◌, ◌%◌, ◌^◌, ◌<◌, ◌≤◌, ◌≡◌, List, [], ◌∷◌, Option, Some, None, Bool, true, nat_lt, nat_le, ◌==◌, ◌&&◌, if◌then◌else◌, length, codes}
+use Rattle.std.specs.Prelude.{ℕ, ◌+◌, ◌-◌, ◌*◌, ◌%◌, ◌^◌, ◌<◌, ◌≤◌, ◌≡◌, List, [], ◌∷◌, Option, Some, None, Bool, true, not, nat_lt, nat_le, ◌==◌, ◌&&◌, ◌||◌, if◌then◌else◌, length, codes}
 use Rattle.std.specs.List.{slice_split, AllByRecursion}
 use Rattle.std.specs.Str.{bytes_eq}
 use Rattle.gv_types.specs.Memory.{bytes_of}
@@ -12,7 +12,28 @@ use Rattle.gv_types.specs.declared.event.Place.TheVariants as places
 use Rattle.gv_text.specs.Number.{◌>>=◌, check, number_below}
 use Rattle.gv_text.specs.declared.script_line.BadLine.{BadLine}
 use Rattle.gv_text.specs.declared.script_line.Line.{Line}
-use Rattle.gv_text.specs.declared.script_line.Line.TheVariants.{Blank, Guest, Read, Write, End}
+use Rattle.gv_text.specs.declared.script_line.Line.TheVariants.{Blank, Guest, Read, Write, Reset, End}
+
+-- the place and the width of each access that the first word of a line names
+abbrev pub read_access : List ℕ → Option (Place × Width)
+read_access word =
+    if bytes_eq word (codes "r4") then Some (places.Memory, Four)
+    else (if bytes_eq word (codes "r8") then Some (places.Memory, Eight)
+    else (if bytes_eq word (codes "i4") then Some (places.Registers, Four)
+    else (if bytes_eq word (codes "i8") then Some (places.Registers, Eight)
+    else (if bytes_eq word (codes "a4") then Some (places.Aperture, Four)
+    else (if bytes_eq word (codes "a8") then Some (places.Aperture, Eight)
+    else None)))))
+
+abbrev pub write_access : List ℕ → Option (Place × Width)
+write_access word =
+    if bytes_eq word (codes "w4") then Some (places.Memory, Four)
+    else (if bytes_eq word (codes "w8") then Some (places.Memory, Eight)
+    else (if bytes_eq word (codes "o4") then Some (places.Registers, Four)
+    else (if bytes_eq word (codes "o8") then Some (places.Registers, Eight)
+    else (if bytes_eq word (codes "b4") then Some (places.Aperture, Four)
+    else (if bytes_eq word (codes "b8") then Some (places.Aperture, Eight)
+    else None)))))
 
 -- one more than the highest address of a place, and than the highest value of an access
 abbrev pub end_of : Place → ℕ
@@ -23,6 +44,29 @@ end_of places.Aperture = 2 ^ 32
 abbrev pub value_limit : Width → ℕ
 value_limit Four = 2 ^ 32
 value_limit Eight = 2 ^ 64
+
+-- whether a byte from `first` up to, but not including, `end` is one from `from` up to `to`
+abbrev pub touches : ℕ → ℕ → ℕ → ℕ → Bool
+touches first end from to = nat_lt first to && nat_lt from end
+
+-- Of an engine's registers, which stand from its base on, no line reaches these so far: ELSP, the
+-- status pairs and their pointer, and the general registers.
+abbrev pub touches_unserved : ℕ → ℕ → ℕ → Bool
+touches_unserved base first end =
+    touches first end (base + 0x230) (base + 0x234)
+    || touches first end (base + 0x370) (base + 0x3A4)
+    || touches first end (base + 0x600) (base + 0x680)
+
+-- Whether a read, or a line of writes, may reach the bytes from `first` up to `end`. The render engine's
+-- registers stand from 0x2000 on, the blitter engine's from 0x22000.
+abbrev pub may_read : Place → ℕ → ℕ → Bool
+may_read places.Registers first end = not (touches_unserved 0x2000 first end || touches_unserved 0x22000 first end)
+may_read place first end = true
+
+-- nor is notify written so far, which stands at 0x78818
+abbrev pub may_write : Place → ℕ → ℕ → Bool
+may_write places.Registers first end = may_read places.Registers first end && not (touches first end 0x78818 0x7881C)
+may_write place first end = true
 
 -- an address is a multiple of the access's bytes
 abbrev pub address_of : Place → Width → List ℕ → Option ℕ
@@ -43,41 +87,50 @@ guest_line f l h = do
   high ← number_below (2 ^ 32) h
   check (nat_lt 0 frames) (Guest (record { frames = frames; low = low; high = high }))
 
--- r4 G A
+-- r4 G A, i4 G O, a4 G A, and the same with 8
 abbrev pub read_line : Place → Width → List ℕ → List ℕ → Option Line
 read_line place width g a = do
   guest ← number_below 8 g
   at ← address_of place width a
-  Some (Read guest place width at)
+  check (may_read place at (at + bytes_of width)) (Read guest place width at)
 
--- w4 G A V .., with 1 to 16 values: the last one's address is in the place, too
+-- A line has at most 16 values. The last one's address is in the place, and all may be written.
+abbrev pub values_fit : Place → Width → ℕ → ℕ → Bool
+values_fit place width at count =
+    nat_le count 16
+    && nat_lt (at + bytes_of width * (count - 1)) (end_of place)
+    && may_write place at (at + bytes_of width * count)
+
+-- w4 G A V .., o4 G O V .., b4 G A V .., and the same with 8
 abbrev pub write_line : Place → Width → List ℕ → List ℕ → List (List ℕ) → Option Line
 write_line place width g a vs = do
   guest ← number_below 8 g
   at ← address_of place width a
   values ← values_of width vs
-  check (nat_le (length values) 16 && nat_lt (at + bytes_of width * (length values - 1)) (end_of place)) (Write guest place width at values)
+  check (values_fit place width at (length values)) (Write guest place width at values)
+
+-- reset G
+abbrev pub reset_line : List ℕ → Option Line
+reset_line g = number_below 8 g >>= λ guest. Some (Reset guest)
 
 abbrev pub one_word : List ℕ → Option Line
 one_word w = if bytes_eq w (codes "end") then Some End else None
 
+abbrev pub two_words : List ℕ → List ℕ → Option Line
+two_words w g = if bytes_eq w (codes "reset") then reset_line g else None
+
 abbrev pub three_words : List ℕ → List ℕ → List ℕ → Option Line
-three_words w g a =
-    if bytes_eq w (codes "r4") then read_line places.Memory Four g a
-    else (if bytes_eq w (codes "r8") then read_line places.Memory Eight g a
-    else None)
+three_words w g a = read_access w >>= λ (place, width). read_line place width g a
 
 abbrev pub more_words : List ℕ → List ℕ → List ℕ → List (List ℕ) → Option Line
-more_words w g a vs =
-    if bytes_eq w (codes "w4") then write_line places.Memory Four g a vs
-    else (if bytes_eq w (codes "w8") then write_line places.Memory Eight g a vs
-    else None)
+more_words w g a vs = write_access w >>= λ (place, width). write_line place width g a vs
 
 abbrev pub four_words : List ℕ → List ℕ → List ℕ → List ℕ → Option Line
 four_words w x y z = if bytes_eq w (codes "guest") then guest_line x y z else more_words w x y (z ∷ [])
 
 abbrev pub line_of_words : List (List ℕ) → Option Line
 line_of_words (w ∷ []) = one_word w
+line_of_words (w ∷ x ∷ []) = two_words w x
 line_of_words (w ∷ x ∷ y ∷ []) = three_words w x y
 line_of_words (w ∷ x ∷ y ∷ z ∷ []) = four_words w x y z
 line_of_words (w ∷ x ∷ y ∷ z ∷ v ∷ vs) = more_words w x y (z ∷ v ∷ vs)
@@ -103,7 +156,8 @@ bad_line = record {}
 -- what holds of each line
 abbrev pub IsForm : Line → Type 0
 IsForm (Guest g) = (0 < g.frames) × (g.frames ≤ 0x4000)
-IsForm (Read guest place width at) = (guest < 8) × (at % bytes_of width ≡ 0)
+IsForm (Read guest place width at) = (guest < 8) × (at % bytes_of width ≡ 0) × (at < end_of place)
 IsForm (Write guest place width at values) = (guest < 8) × (at % bytes_of width ≡ 0) × (0 < length values) × (length values ≤ 16)
-    × (at + bytes_of width * length values ≤ 2 ^ 64) × AllByRecursion (λ value. value < value_limit width) values
+    × (at + bytes_of width * length values ≤ end_of place) × AllByRecursion (λ value. value < value_limit width) values
+IsForm (Reset guest) = guest < 8
 IsForm line = Unit {0}

@@ -1,27 +1,32 @@
 -- A script: from its bytes to the lines that are accepted, and how it ends.
 use Rattle.std.specs.Prelude.{◌≡◌, refl, ℕ, ◌+◌, List, [], ◌∷◌, Option, Some, None, Bool, true, false, not, nat_lt, nat_le, ◌==◌, ◌&&◌, if◌then◌else◌, length, take}
 use Rattle.std.specs.List.{slice_split}
+use Rattle.gv_types.specs.declared.ranges.Want.{Want}
+use Rattle.gv_balloon.specs.Shares.{nothing_given, fits, given_after}
 use Rattle.gv_text.specs.Number.{◌>>=◌, check}
 use Rattle.gv_text.specs.Grammar.{line_of}
 use Rattle.gv_text.specs.declared.known.Known.{Known}
 use Rattle.gv_text.specs.declared.script_line.Line.{Line}
-use Rattle.gv_text.specs.declared.script_line.Line.TheVariants.{Blank, Guest, Read, Write, End}
+use Rattle.gv_text.specs.declared.script_line.Line.TheVariants.{Blank, Guest, Read, Write, Reset, End}
 use Rattle.gv_text.specs.declared.script_line.Guest.{Guest as GuestForm}
 use Rattle.gv_text.specs.declared.ending.Ending.{Ending}
 use Rattle.gv_text.specs.declared.ending.Ending.TheVariants.{Done, BadScript, TooLong}
 
--- What the accepted lines have settled: how many guests there are, their frames, low pages and high
--- pages in all, and whether an event came.
+-- What the accepted lines have settled: how many guests there are, their frames in all, the pages of
+-- the global table that they are given, and whether an event came.
 abbrev pub nothing_known : Known
-nothing_known = record { guests = 0; frames = 0; low = 0; high = 0; begun = false }
+nothing_known = record { guests = 0; frames = 0; given = nothing_given; begun = false }
+
+-- the pages that a guest asks for
+abbrev pub want_of : GuestForm → Want
+want_of g = record { low = g.low; high = g.high }
 
 -- whether there is room for one more guest
 abbrev pub has_room : Known → GuestForm → Bool
 has_room known g =
     nat_lt known.guests 8
     && nat_le (known.frames + g.frames) 16384
-    && nat_le (known.low + g.low) 65536
-    && nat_le (known.high + g.high) 966656
+    && fits known.given (want_of g)
 
 -- A guest is accepted before any event; an event, where its guest is there; `end`, where any is.
 abbrev pub accepts : Known → Line → Bool
@@ -29,12 +34,13 @@ accepts known Blank = true
 accepts known (Guest g) = not known.begun && has_room known g
 accepts known (Read guest place width at) = nat_lt guest known.guests
 accepts known (Write guest place width at values) = nat_lt guest known.guests
+accepts known (Reset guest) = nat_lt guest known.guests
 accepts known End = nat_lt 0 known.guests
 accepts known line = false
 
 abbrev pub known_after : Known → Line → Known
 known_after known Blank = known
-known_after known (Guest g) = record known { guests = known.guests + 1; frames = known.frames + g.frames; low = known.low + g.low; high = known.high + g.high }
+known_after known (Guest g) = record known { guests = known.guests + 1; frames = known.frames + g.frames; given = given_after known.given (want_of g) }
 known_after known line = record known { begun = true }
 
 -- the line that the bytes are, where it is accepted

@@ -5,6 +5,7 @@ ghost use Rattle.gv_text.specs.Number.{number_below};
 ghost use Rattle.gv_text.specs.Grammar.{end_of, value_limit, address_of, values_of};
 
 use crate::Values;
+use crate::access::highest_address;
 use crate::number::number_up_to;
 use gv_types::{Place, Width};
 
@@ -32,16 +33,6 @@ pub(crate) fn number_u32(word: &[u8]) -> Option<u32>
 {
     let value = number_up_to(u64::from(u32::MAX), word)?;
     Some(value as u32)
-}
-
-pub(crate) fn highest_address(place: Place) -> u64
-    ensures { result + 1 ≡ end_of place }
-{
-    match place {
-        Place::Memory => u64::MAX,
-        Place::Registers => 0xff_ffff,
-        Place::Aperture => u64::from(u32::MAX),
-    }
 }
 
 /// An address in the place, which is a multiple of the access's bytes.

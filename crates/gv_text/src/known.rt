@@ -1,13 +1,13 @@
 use crate::{Guest, Line};
+use gv_balloon::Given;
 
-/// What the accepted lines of a script have settled: how many guests there are, their frames, low
-/// pages and high pages in all, and whether an event came.
+/// What the accepted lines of a script have settled: how many guests there are, their frames in all,
+/// the pages of the global table that they are given, and whether an event came.
 #[derive(Clone, Copy, Debug, PartialEq, Eq)]
 pub struct Known {
     pub guests: u8,
     pub frames: u32,
-    pub low: u32,
-    pub high: u32,
+    pub given: Given,
     pub begun: bool,
 }
 
@@ -20,20 +20,18 @@ impl Known {
     pub const NOTHING: Known = Known {
         guests: 0,
         frames: 0,
-        low: 0,
-        high: 0,
+        given: Given::NOTHING,
         begun: false,
     };
 
-    // Whether there is room for one more guest: 8 guests, 16,384 frames, 65,536 low pages and
-    // 966,656 high pages are the most.
+    // Whether there is room for one more guest: 8 guests and 16,384 frames are the most, and the
+    // pages that it asks for fit.
     fn has_room(&self, guest: &Guest) -> bool
         ensures { result ≡ has_room self.now guest.now }
     {
         self.guests < 8
             && u64::from(self.frames) + u64::from(guest.frames) <= 16_384
-            && u64::from(self.low) + u64::from(guest.low) <= 65_536
-            && u64::from(self.high) + u64::from(guest.high) <= 966_656
+            && self.given.fits(&guest.want())
     }
 
     // Whether a line is accepted there.
@@ -45,6 +43,7 @@ impl Known {
             Line::Guest(guest) => !self.begun && self.has_room(guest),
             Line::Read { guest, .. } => *guest < self.guests,
             Line::Write { guest, .. } => *guest < self.guests,
+            Line::Reset { guest } => *guest < self.guests,
             Line::End => self.guests > 0,
             _ => false,
         }
@@ -74,8 +73,7 @@ impl Known {
             Line::Guest(guest) => Known {
                 guests: self.guests + 1,
                 frames: self.frames + guest.frames,
-                low: self.low + guest.low,
-                high: self.high + guest.high,
+                given: self.given.after(&guest.want()),
                 ..*self
             },
             _ => Known {

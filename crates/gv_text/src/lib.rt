@@ -2,6 +2,7 @@
 //! 64 bytes, so neither takes memory.
 #![tactic(auto)]
 
+mod access;
 mod ending;
 mod fields;
 mod guest_lines;

@@ -1,7 +1,8 @@
 ghost use Rattle.std.specs.Prelude.{◌≡◌, ℕ, ◌+◌, ◌%◌, ◌^◌, ◌<◌, ◌≤◌, length, map, IfSome, IfOk, ok_or};
-ghost use Rattle.gv_text.specs.Grammar.{one_word, three_words, four_words, more_words, guest_line, read_line, write_line, line_of_words, words_of, line_of, says_nothing, bad_line, IsForm};
+ghost use Rattle.gv_text.specs.Grammar.{one_word, two_words, three_words, four_words, more_words, guest_line, reset_line, read_line, write_line, line_of_words, words_of, line_of, says_nothing, bad_line, IsForm};
 
-use crate::fields::{address, frame_count, guest_number, highest_address, number_u32, values};
+use crate::access::{highest_address, may_read, may_write, read_access, write_access};
+use crate::fields::{address, frame_count, guest_number, number_u32, values};
 use crate::lines::LONGEST_LINE;
 use crate::{BadLine, Guest, Line};
 use arrayvec::ArrayVec;
@@ -64,7 +65,7 @@ fn of_words(words: &[&[u8]]) -> Option<Line>
     match words {
         [] => None,
         [word] => of_one_word(word),
-        [_, _] => None,
+        [word, x] => of_two_words(word, x),
         [word, x, y] => of_three_words(word, x, y),
         [word, x, y, z] => of_four_words(word, x, y, z),
         [word, x, y, values @ ..] => of_more_words(word, x, y, values),
@@ -82,17 +83,23 @@ fn of_one_word(word: &[u8]) -> Option<Line>
     }
 }
 
+fn of_two_words(word: &[u8], x: &[u8]) -> Option<Line>
+    ensures value { result ≡ two_words word.now x.now }
+    ensures form { IfSome result IsForm }
+{
+    if word == b"reset".as_slice() {
+        reset(x)
+    } else {
+        None
+    }
+}
+
 fn of_three_words(word: &[u8], x: &[u8], y: &[u8]) -> Option<Line>
     ensures value { result ≡ three_words word.now x.now y.now }
     ensures form { IfSome result IsForm }
 {
-    if word == b"r4".as_slice() {
-        read(Place::Memory, Width::Four, x, y)
-    } else if word == b"r8".as_slice() {
-        read(Place::Memory, Width::Eight, x, y)
-    } else {
-        None
-    }
+    let (place, width) = read_access(word)?;
+    read(place, width, x, y)
 }
 
 fn of_four_words(word: &[u8], x: &[u8], y: &[u8], z: &[u8]) -> Option<Line>
@@ -112,13 +119,8 @@ fn of_more_words(word: &[u8], x: &[u8], y: &[u8], values: &[&[u8]]) -> Option<Li
     ensures value { result ≡ more_words word.now x.now y.now (map (λ w. w.now) values.now) }
     ensures form { IfSome result IsForm }
 {
-    if word == b"w4".as_slice() {
-        write(Place::Memory, Width::Four, x, y, values)
-    } else if word == b"w8".as_slice() {
-        write(Place::Memory, Width::Eight, x, y, values)
-    } else {
-        None
-    }
+    let (place, width) = write_access(word)?;
+    write(place, width, x, y, values)
 }
 
 fn guest(frames: &[u8], low: &[u8], high: &[u8]) -> Option<Line>
@@ -134,12 +136,23 @@ fn guest(frames: &[u8], low: &[u8], high: &[u8]) -> Option<Line>
     Some(Line::Guest(Guest { frames, low, high }))
 }
 
+fn reset(guest: &[u8]) -> Option<Line>
+    ensures value { result ≡ reset_line guest.now }
+    ensures form { IfSome result IsForm }
+{
+    let guest = guest_number(guest)?;
+    Some(Line::Reset { guest })
+}
+
 fn read(place: Place, width: Width, guest: &[u8], at: &[u8]) -> Option<Line>
     ensures value { result ≡ read_line place width guest.now at.now }
     ensures form { IfSome result IsForm }
 {
     let guest = guest_number(guest)?;
     let at = address(place, width, at)?;
+    if !may_read(place, at, width.bytes()) {
+        return None;
+    }
     Some(Line::Read {
         guest,
         place,
@@ -157,8 +170,9 @@ fn write(place: Place, width: Width, guest: &[u8], at: &[u8], words: &[&[u8]]) -
     let guest = guest_number(guest)?;
     let at = address(place, width, at)?;
     let values = values(width, words)?;
-    let last = width.bytes() * (words.len() as u64 - 1);
-    if highest_address(place) - at < last {
+    let bytes = width.bytes() * words.len() as u64;
+    let last = bytes - width.bytes();
+    if highest_address(place) - at < last || !may_write(place, at, bytes) {
         return None;
     }
     Some(Line::Write {

@@ -1,5 +1,5 @@
 use crate::Values;
-use gv_types::{Place, Width};
+use gv_types::{Place, Want, Width};
 
 /// A `guest` line: frames of memory, and pages of the low and of the high part of the global table.
 #[derive(Clone, Copy, Debug, PartialEq, Eq)]
@@ -9,6 +9,21 @@ pub struct Guest {
     pub high: u32,
 }
 
+impl Guest {
+    ghost use Rattle.std.specs.Prelude.{◌≡◌};
+    ghost use Rattle.gv_text.specs.Script.{want_of};
+
+    /// The pages that it asks for.
+    pub fn want(&self) -> Want
+        ensures { result ≡ want_of self.now }
+    {
+        Want {
+            low: self.low,
+            high: self.high,
+        }
+    }
+}
+
 /// What a line of a script says.
 #[derive(Debug, PartialEq, Eq, Drop)]
 pub enum Line {
@@ -16,15 +31,17 @@ pub enum Line {
     Blank,
     /// `guest F L H`
     Guest(Guest),
-    /// `r4 G A` or `r8 G A`: the address is a multiple of the access's bytes.
+    /// `r4 G A` (memory), `i4 G O` (the register range), `a4 G A` (the aperture), and with 8 the same
+    /// of eight bytes: the address or offset is a multiple of the access's bytes.
     Read {
         guest: u8,
         place: Place,
         width: Width,
         at: u64,
     },
-    /// `w4 G A V ..` or `w8 G A V ..`: the first value is written at the address, each further one
-    /// behind the one before.
+    /// `w4 G A V ..` (memory), `o4 G O V ..` (the register range), `b4 G A V ..` (the aperture), and
+    /// with 8 the same of eight bytes: the first value is written at the address or offset, each
+    /// further one behind the one before.
     Write {
         guest: u8,
         place: Place,
@@ -49,6 +66,7 @@ pub enum Line {
         guest: u8,
         frame: u32,
     },
+    /// `reset G`
     Reset {
         guest: u8,
     },

@@ -1,20 +1,31 @@
 ghost use Rattle.std.specs.Prelude.{◌<◌};
 ghost use Rattle.gv_text.specs.Report.{IsPrintable};
 
-use crate::{BadLine, Guest, Line, ReportLine, Values, line, next_line, print};
+use crate::{BadLine, Guest, Known, Line, ReportLine, Values, line, next_line, print};
+use gv_balloon::Given;
 use gv_types::{EngineId, GuestId, Place, Reason, Width};
 use std::process::Abort;
 
-fn read(guest: u8, width: Width, at: u64) -> Result<Line, BadLine> {
+fn read_at(guest: u8, place: Place, width: Width, at: u64) -> Result<Line, BadLine> {
     Ok(Line::Read {
         guest,
-        place: Place::Memory,
+        place,
         width,
         at,
     })
 }
 
-fn write(guest: u8, width: Width, at: u64, items: &[u64]) -> Result<Line, BadLine> {
+fn read(guest: u8, width: Width, at: u64) -> Result<Line, BadLine> {
+    read_at(guest, Place::Memory, width, at)
+}
+
+fn write_at(
+    guest: u8,
+    place: Place,
+    width: Width,
+    at: u64,
+    items: &[u64],
+) -> Result<Line, BadLine> {
     let mut values = Values::new();
     for item in items {
         if values.len() < 16 {
@@ -23,11 +34,15 @@ fn write(guest: u8, width: Width, at: u64, items: &[u64]) -> Result<Line, BadLin
     }
     Ok(Line::Write {
         guest,
-        place: Place::Memory,
+        place,
         width,
         at,
         values,
     })
+}
+
+fn write(guest: u8, width: Width, at: u64, items: &[u64]) -> Result<Line, BadLine> {
+    write_at(guest, Place::Memory, width, at, items)
 }
 
 fn guest(frames: u32, low: u32, high: u32) -> Result<Line, BadLine> {
@@ -93,6 +108,102 @@ fn writes(rt: HostRuntime) {
     );
 }
 
+#[test]
+fn register_accesses(rt: HostRuntime) {
+    let place = Place::Registers;
+    assert_eq!(rt;
+        line(b"i4 0 12030"),
+        read_at(0, place, Width::Four, 0x1_2030)
+    );
+    assert_eq!(rt;
+        line(b"i4 0 78818"),
+        read_at(0, place, Width::Four, 0x7_8818)
+    );
+    assert_eq!(rt;
+        line(b"i8 7 fffff8"),
+        read_at(7, place, Width::Eight, 0xff_fff8)
+    );
+    assert_eq!(rt;
+        line(b"o4 0 2234 1"),
+        write_at(0, place, Width::Four, 0x2234, &[1])
+    );
+    assert_eq!(rt;
+        line(b"o8 0 78810 1"),
+        write_at(0, place, Width::Eight, 0x7_8810, &[1])
+    );
+    assert_eq!(rt;
+        line(b"o4 0 fffff8 1 2"),
+        write_at(0, place, Width::Four, 0xff_fff8, &[1, 2])
+    );
+    assert_eq!(rt;
+        line(b"o8 2 fffff8 5001"),
+        write_at(2, place, Width::Eight, 0xff_fff8, &[0x5001])
+    );
+}
+
+/// Lines that reach other offsets than those that are refused, next to them too.
+const ACCEPTED: [&[u8]; 23] = [
+    b"i4 0 0",
+    b"i4 0 222c",
+    b"i8 0 2228",
+    b"i4 0 2234",
+    b"i4 0 236c",
+    b"i8 0 2368",
+    b"i4 0 23a4",
+    b"i8 0 23a8",
+    b"i4 0 25fc",
+    b"i8 0 25f8",
+    b"i4 0 2680",
+    b"i4 0 2222c",
+    b"i4 0 22234",
+    b"i8 0 22368",
+    b"i4 0 223a4",
+    b"i8 0 225f8",
+    b"i8 0 22680",
+    b"i8 0 12230",
+    b"o4 0 12600 1",
+    b"o8 0 2220 1 2",
+    b"o4 0 78810 0 0",
+    b"o4 0 7881c 0 0",
+    b"i8 0 78818",
+];
+
+#[test]
+fn accepted_lines(rt: HostRuntime) {
+    for text in ACCEPTED {
+        assert!(rt; line(text).is_ok());
+    }
+}
+
+#[test]
+fn resets(rt: HostRuntime) {
+    assert_eq!(rt; line(b"reset 0"), Ok(Line::Reset { guest: 0 }));
+    assert_eq!(rt; line(b"reset 7"), Ok(Line::Reset { guest: 7 }));
+}
+
+#[test]
+fn aperture_accesses(rt: HostRuntime) {
+    let place = Place::Aperture;
+    assert_eq!(rt; line(b"a4 0 4ff8"), read_at(0, place, Width::Four, 0x4ff8));
+    assert_eq!(rt;
+        line(b"a4 0 fffffffc"),
+        read_at(0, place, Width::Four, 0xffff_fffc)
+    );
+    assert_eq!(rt;
+        line(b"a8 0 fffffff8"),
+        read_at(0, place, Width::Eight, 0xffff_fff8)
+    );
+    assert_eq!(rt; line(b"b4 3 0 6"), write_at(3, place, Width::Four, 0, &[6]));
+    assert_eq!(rt;
+        line(b"b4 0 fffffff8 1 2"),
+        write_at(0, place, Width::Four, 0xffff_fff8, &[1, 2])
+    );
+    assert_eq!(rt;
+        line(b"b8 0 fffffff0 1 2"),
+        write_at(0, place, Width::Eight, 0xffff_fff0, &[1, 2])
+    );
+}
+
 /// A line of 256 bytes, and the same with one more zero.
 #[test]
 fn the_longest_line(rt: HostRuntime) {
@@ -104,7 +215,7 @@ fn the_longest_line(rt: HostRuntime) {
     assert_eq!(rt; line(&[b'#'; 257]), Err(BadLine));
 }
 
-const REFUSED: [&[u8]; 46] = [
+const REFUSED: [&[u8]; 88] = [
     b" ",
     b" #",
     b" end",
@@ -147,10 +258,52 @@ const REFUSED: [&[u8]; 46] = [
     b"w4 0 0 1 2 3 4 5 6 7 8 9 a b c d e f 10 11",
     b"w4 0 fffffffffffffffc 1 2",
     b"turn 1 1",
-    b"i4 0 0",
-    b"o4 0 0 1",
+    b"i4 0 2230",
+    b"i8 0 2230",
+    b"i4 0 2370",
+    b"i8 0 2370",
+    b"i4 0 239c",
+    b"i4 0 23a0",
+    b"i8 0 23a0",
+    b"i4 0 2600",
+    b"i4 0 267c",
+    b"i8 0 2678",
+    b"i4 0 22230",
+    b"i4 0 22370",
+    b"i4 0 223a0",
+    b"i4 0 22600",
+    b"i4 0 2267c",
+    b"i4 0 2",
+    b"i8 0 4",
+    b"i4 8 0",
+    b"i4 0 1000000",
+    b"i4 0 0 1",
+    b"o4 0 2230 1",
+    b"o4 0 222c 1 2",
+    b"o8 0 2228 1 2",
+    b"o4 0 2368 1 2 3",
+    b"o4 0 23a0 1",
+    b"o8 0 25f8 1 2",
+    b"o4 0 2267c 1",
+    b"o4 0 78818 4",
+    b"o8 0 78818 4",
+    b"o4 0 78810 0 0 0",
+    b"o4 0 fffffc 1 2",
+    b"o8 0 fffff8 1 2",
+    b"o4 0 0 100000000",
+    b"o4 0 0",
+    b"a4 0 2",
+    b"a8 0 4",
+    b"a4 0 100000000",
+    b"a4 0 0 0",
+    b"b4 0 fffffffc 1 2",
+    b"b8 0 fffffff8 1 2",
+    b"b4 0 100000000 1",
     b"switch 1",
-    b"reset 0",
+    b"reset",
+    b"reset 8",
+    b"reset  0",
+    b"reset 0 0",
 ];
 
 #[test]
@@ -168,6 +321,51 @@ fn values_are_told_in_order(rt: HostRuntime) {
     assert_eq!(rt; values.as_slice(), [5, 4, 3].as_slice());
     assert_eq!(rt; values.len(), 3);
     assert!(rt; !values.is_empty());
+}
+
+/// What is known after a line that is accepted.
+fn known_after(known: &Known, bytes: &[u8]) -> Option<Known> {
+    let line = known.accepted(bytes)?;
+    Some(known.after(&line))
+}
+
+#[test]
+fn lines_in_their_order(rt: HostRuntime) {
+    let guest = Known {
+        guests: 1,
+        frames: 1,
+        given: Given {
+            low: 0xffff,
+            high: 0xec000,
+        },
+        begun: false,
+    };
+    let two = Known {
+        guests: 2,
+        frames: 0x4000,
+        given: Given {
+            low: 0x1_0000,
+            high: 0xec000,
+        },
+        begun: false,
+    };
+    let begun = Known {
+        begun: true,
+        ..guest
+    };
+    let nothing = Known::NOTHING;
+    assert_eq!(rt; known_after(&nothing, b"guest 1 ffff ec000"), Some(guest));
+    assert_eq!(rt; known_after(&nothing, b"a4 0 0"), None);
+    assert_eq!(rt; known_after(&guest, b"guest 3fff 1 0"), Some(two));
+    assert_eq!(rt; known_after(&guest, b"guest 4000 1 0"), None);
+    assert_eq!(rt; known_after(&guest, b"guest 1 2 0"), None);
+    assert_eq!(rt; known_after(&guest, b"guest 1 0 1"), None);
+    assert_eq!(rt; known_after(&guest, b"a4 0 0"), Some(begun));
+    assert_eq!(rt; known_after(&guest, b"o4 0 800000 1"), Some(begun));
+    assert_eq!(rt; known_after(&guest, b"reset 0"), Some(begun));
+    assert_eq!(rt; known_after(&guest, b"reset 1"), None);
+    assert_eq!(rt; known_after(&guest, b"a4 1 0"), None);
+    assert_eq!(rt; known_after(&begun, b"guest 1 0 0"), None);
 }
 
 fn assert_next(rt: &impl Abort, rest: &[u8], whole: bool, expected: Option<(&[u8], &[u8])>) {

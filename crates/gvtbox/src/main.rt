@@ -2,7 +2,7 @@
 //! script's report to standard output. Its exit status says how that went.
 #![tactic(auto)]
 
-use gv_gpu::SoftGpu;
+use gv_engine::SoftGpu;
 use gv_outside::{StdSink, StdSource};
 use gv_run::{Status, mediate};
 use std::io::ErrorKind;

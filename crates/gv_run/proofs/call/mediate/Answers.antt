@@ -51,7 +51,7 @@ returns-in-Ok-clause-journal g c = λ told.
     let text = c.deref.result.now in
     let read = subst (λ (t : List ℕ). IfSome left (λ bytes. t ≡ take (script_limit + 1) bytes)) (sym c.deref.ensures.value) c.in-Ok.ensures.ok in
     of_source left text read (λ bytes is.
-    ap (λ (d : Device). d.journal) c.play.ensures.outside ∙ ap (λ (d : Device). d.journal) c.requires.empty ∙ sym (commands_in-none bytes))
+    c.play.ensures.ran.journal ∙ ap (λ (d : Device). d.journal) c.requires.empty ∙ sym (commands_in-none bytes))
 
 pub returns-in-Ok-clause-complete : goal.returns-in-Ok-clause-complete
 returns-in-Ok-clause-complete g c = λ command source sink found.

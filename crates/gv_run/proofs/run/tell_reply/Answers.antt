@@ -1,13 +1,10 @@
-use Rattle.std.proofs.Common.{◌≡◌, ◌++◌, ap, ◌∙◌, subst, List, OnOk}
-use Rattle.gv_text.specs.Report.{text_of}
-use Rattle.gv_text.specs.declared.report_line.ReportLine.{ReportLine}
-use Rattle.gv_run.proofs.Text.{said_none}
+use Rattle.gv_run.specs.Report.{irq_said, answer_said}
+use Rattle.gv_run.proofs.Text.{said_twice, ok_then}
 use Rattle.gv_run.proofs.run.tell_reply.Goals as goal
 
-pub returns-in-Some : goal.returns-in-Some
-returns-in-Some c =
-    let old = c.args.report.now.items in
-    subst (λ (lines : List ReportLine). OnOk c.tell.result (c.tell.new.report.items ≡ old ++ text_of lines)) c.in-Some.ensures.value c.tell.ensures
-
-pub returns-in-None : goal.returns-in-None
-returns-in-None c = said_none c.args.report.now.items ∙ ap (λ lines. c.args.report.now.items ++ text_of lines) c.in-None.ensures.value
+pub returns : goal.returns
+returns c =
+    let reply = c.args.reply.now in
+    ok_then c.tell_answer.result
+    (said_twice c.args.report.now.items c.tell_irq.new.report.items c.tell_answer.new.report.items (irq_said reply.guest reply.irq) (answer_said c.args.event.now reply.guest reply.answer) c.in_ok-tell_irq.ensures)
+    c.tell_answer.ensures

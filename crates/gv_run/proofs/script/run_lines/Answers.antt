@@ -4,6 +4,7 @@ use Rattle.gv_text.specs.declared.known.Known.{Known}
 use Rattle.gv_text.specs.declared.ending.Ending.TheVariants.{Done, BadScript}
 use Rattle.gv_run.specs.Tied.{machine_in}
 use Rattle.gv_run.proofs.Left.{Left, left_of, left_refused, left_ended, left_line, left_missing, all_left, over-report, goes_on}
+use Rattle.gv_run.proofs.Ran.{ran-none, ran-more}
 use Rattle.gv_run.proofs.script.run_lines.Goals as goal
 
 pub loop-bytes-init : goal.loop-bytes-init
@@ -14,7 +15,7 @@ loop-bytes-init g c =
     record {
       agrees = c.requires.agrees;
       left = subst (λ (known : Known). Left m before all m before (left_of c.args.whole known 1 c.args.text.now)) (sym c.requires.new) (all_left m before all);
-      outside = refl;
+      ran = ran-none (g.G.Gpu.state c.args.gpu.now);
       numbered = omega arith;
     }
 
@@ -54,7 +55,7 @@ loop-bytes-preserved g c =
     record {
       agrees = done.agrees;
       left = subst (λ (known : Known). Left m0 c.args.run.now.report.items all next c.line.new.self.report.items (left_of c.args.whole known (n + 1) after)) (sym done.known) on;
-      outside = done.outside ∙ kept.outside;
+      ran = ran-more _ _ _ kept.ran done.ran;
       numbered = omega (arith, c.in-Some.ensures.shorter);
     }
 

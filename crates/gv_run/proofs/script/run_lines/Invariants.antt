@@ -1,7 +1,6 @@
-use Rattle.std.proofs.Common.{◌≡◌, ◌+◌, ◌≤◌, length}
-use Rattle.gv_gpu.specs.Part.{outside}
+use Rattle.std.proofs.Common.{◌+◌, ◌≤◌, length}
 use Rattle.gv_text.specs.Script.{script_in}
-use Rattle.gv_run.specs.Tied.{Agrees, machine_in, all_frames}
+use Rattle.gv_run.specs.Tied.{Agrees, RanNothing, machine_in}
 use Rattle.gv_run.proofs.Left.{Left, left_of}
 use Rattle.gv_run.proofs.script.run_lines.Given as goal
 
@@ -12,7 +11,7 @@ invariant-loop-bytes g l =
     record {
       agrees : Agrees now l.run.known l.run.guests.items;
       left : Left (machine_in start l.fn.run.guests.items) l.fn.run.report.items (script_in l.whole l.text) (machine_in now l.run.guests.items) l.run.report.items (left_of l.whole l.run.known l.number l.rest);
-      outside : outside all_frames now ≡ outside all_frames start;
+      ran : RanNothing start now;
       numbered : l.number + length l.rest ≤ length l.text + 1;
     }
 

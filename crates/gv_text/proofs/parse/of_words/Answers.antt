@@ -1,19 +1,9 @@
-use Rattle.std.proofs.Common.{◌≡◌, ◌<◌, ◌≤◌, ℕ, List, [], ◌∷◌, length, map, get_or, drop, None, Option, refl, ap, ◌∙◌, arith}
-use Rattle.std.proofs.lemmas.List.{length-map, take_rest}
+use Rattle.std.proofs.Common.{◌≡◌, ◌≤◌, ℕ, List, [], ◌∷◌, length, map, get_or, drop, refl, ap, ◌∙◌, arith}
+use Rattle.std.proofs.lemmas.List.{take_rest}
 use Rattle.std.specs.Borrow.{Bor}
 use Rattle.gv_text.specs.Grammar.{more_words, line_of_words}
-use Rattle.gv_text.specs.declared.script_line.Line.{Line}
 use Rattle.gv_text.proofs.ValueSteps.{no_slice}
 use Rattle.gv_text.proofs.parse.of_words.Goals as goal
-
-no_line : (ws : List (List ℕ)) → 2 ≤ length ws → length ws < 3 → ◌≡◌ {A = Option Line} None (line_of_words ws)
-no_line [] low high = refl
-no_line (a ∷ []) low high = absurd (omega arith)
-no_line (a ∷ b ∷ []) low high = refl
-no_line (a ∷ b ∷ c ∷ ws) low high = absurd (omega arith)
-
-pub returns-in-len2-clause-value : goal.returns-in-len2-clause-value
-returns-in-len2-clause-value c = no_line (map (λ (w : Bor (List ℕ)). w.now) c.args.words.now) (rw length-map c.in-len2.len_at_least) (rw length-map (omega arith))
 
 many_words : (xs : List (Bor (List ℕ))) (d : Bor (List ℕ)) → 5 ≤ length xs → more_words (get_or xs 0 d).now (get_or xs 1 d).now (get_or xs 2 d).now (map (λ w. w.now) (drop 3 xs)) ≡ line_of_words (map (λ w. w.now) xs)
 many_words [] d many = absurd (omega arith)

@@ -1,5 +1,5 @@
 use Rattle.std.proofs.Common.{◌≡◌, [], ◌∷◌, ◌++◌, ap, ◌∙◌, List}
-use Rattle.gv_guest.specs.Placed.{Placed}
+use Rattle.gv_vgpu.specs.declared.vgpu.Vgpu.{Vgpu}
 use Rattle.gv_text.specs.Report.{text_of}
 use Rattle.gv_text.specs.declared.report_line.ReportLine.TheVariants.{Done}
 use Rattle.gv_run.specs.Report.{memories_said}
@@ -14,5 +14,5 @@ returns-in_ok-tell_memories-in-Done g c =
     let mid = c.tell_memories.new.report.items in
     let guests = c.args.self.now.guests.items in
     let told : mid ≡ before ++ text_of (memories_said 0 (machine_in d guests)) =
-    c.in_ok-tell_memories-in-Done.ensures ∙ ap (λ (gs : List Placed). before ++ text_of (memories_said 0 (machine_in d gs))) c.deref.ensures.value in
+    c.in_ok-tell_memories-in-Done.ensures ∙ ap (λ (gs : List Vgpu). before ++ text_of (memories_said 0 (machine_in d gs))) c.deref.ensures.value in
     rw c.in-Done.is (record { report = ok_then c.tell.result (said_twice before mid c.tell.new.report.items (memories_said 0 (machine_in d guests)) (Done ∷ []) told) c.tell.ensures })

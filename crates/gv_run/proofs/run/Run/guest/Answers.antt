@@ -1,47 +1,68 @@
-use Rattle.std.proofs.Common.{◌≡◌, ◌+◌, ◌++◌, ◌∷◌, [], length, ap, sym, ◌∙◌, subst, List, arith, length-append}
+use Rattle.std.proofs.Common.{◌≡◌, ◌+◌, ◌++◌, ◌∷◌, [], All, true, length, ap, sym, ◌∙◌, subst, List, arith, length-append}
 use Rattle.std.proofs.lemmas.Bool.Decides.{nat_tests}
-use Rattle.gv_guest.specs.Placed.{Placed}
+use Rattle.gv_types.specs.declared.ranges.Ranges.{Ranges}
+use Rattle.gv_types.specs.declared.ranges.Want.{Want}
+use Rattle.gv_balloon.specs.Shares.{AreAmong, fits, next_ranges, given_after}
 use Rattle.gv_gpu.specs.Part.{outside, frames_part}
-use Rattle.gv_run.specs.Device.{new_device}
-use Rattle.gv_run.specs.Tied.{Ties, machine_in}
-use Rattle.gv_run.proofs.AddedGuest.{ties-added, machine-added}
-use Rattle.gv_run.proofs.OneGuest.{frames-outside}
+use Rattle.gv_text.specs.Script.{want_of}
+use Rattle.gv_vgpu.specs.Device.{PrivateDevice, new_device}
+use Rattle.gv_vgpu.specs.Holds.{ranges_of}
+use Rattle.gv_vgpu.specs.declared.vgpu.Vgpu.{Vgpu}
+use Rattle.gv_run.specs.Machine.{given_to}
+use Rattle.gv_run.specs.Tied.{Ties, machine_in, all_ranges}
+use Rattle.gv_run.proofs.AddedGuest.{ties-added, machine-added, all_ranges-push, given_to-push, among-push}
 use Rattle.gv_run.proofs.run.Run.guest.Goals as goal
-
-pub returns-in_err-memory-clause-outside : goal.returns-in_err-memory-clause-outside
-returns-in_err-memory-clause-outside g c = frames-outside c.args.self.now.known.guests (g.G.Gpu.state c.args.gpu.now) (g.G.Gpu.state c.new.new.gpu) c.in_err-memory.ensures.outside
-
-pub returns-clause-outside : goal.returns-clause-outside
-returns-clause-outside g c = frames-outside c.args.self.now.known.guests (g.G.Gpu.state c.args.gpu.now) (g.G.Gpu.state c.new.new.gpu) c.in_ok-memory.ensures.outside
 
 pub returns-clause-machine : goal.returns-clause-machine
 returns-clause-machine g c =
     let d = g.G.Gpu.state c.args.gpu.now in
     let e = g.G.Gpu.state c.new.new.gpu in
-    let memory = c.in_ok-memory.memory in
-    let made = c.in_ok-memory.ensures in
     let guests = c.args.self.now.guests.items in
+    let device = c.in_ok-device.device in
+    let made = c.in_ok-device.ensures in
+    let agrees = c.requires.agrees in
+    let given = c.args.self.now.known.given in
+    let want = want_of c.args.guest.now in
+    let next : c.next-ranges.result ≡ next_ranges given want = c.next-ranges.ensures.ranges ∙ ap (next_ranges given) c.want.ensures in
+    let number = ap (λ (p : PrivateDevice). p.number) made.device in
+    let own = ap (λ (p : PrivateDevice). p.ranges) made.device ∙ next in
+    let fit : fits given want ≡ true = grind (arith, nat_tests) in
+    let outside = subst (λ n. outside (frames_part n) e ≡ outside (frames_part n) d) (sym number) made.outside in
     let pushed = rw c.unwrap.ensures at c.push.ensures.items in
-    let items : c.push.new.self.items ≡ guests ++ memory ∷ [] = pushed ∙ ap (λ (gs : List Placed). gs ++ memory ∷ []) c.in_ok-reserve.ensures.items in
-    let last = made.guest ∙ sym c.requires.agrees.count in
-    let outside = subst (λ n. outside (frames_part n) e ≡ outside (frames_part n) d) (sym made.guest) made.outside in
-    ap (machine_in e) items ∙ machine-added d e guests memory c.requires.agrees.ties last outside (new_device c.args.guest.now.frames) (ap (λ m. record { memory = m }) made.memory)
+    let items : c.push.new.self.items ≡ guests ++ device ∷ [] = pushed ∙ ap (λ (gs : List Vgpu). gs ++ device ∷ []) c.in_ok-reserve.ensures.items in
+    ap (machine_in e) items
+    ∙ machine-added d e guests device given want agrees.ties agrees.among fit (number ∙ sym agrees.count) own made.holds outside
+    (new_device c.args.self.now.known.guests c.args.guest.now.frames (next_ranges given want))
+    (made.device ∙ ap (new_device c.args.self.now.known.guests c.args.guest.now.frames) next)
 
 pub returns-clause-agrees : goal.returns-clause-agrees
 returns-clause-agrees g c =
     let d = g.G.Gpu.state c.args.gpu.now in
     let e = g.G.Gpu.state c.new.new.gpu in
-    let memory = c.in_ok-memory.memory in
-    let made = c.in_ok-memory.ensures in
     let guests = c.args.self.now.guests.items in
+    let device = c.in_ok-device.device in
+    let made = c.in_ok-device.ensures in
+    let agrees = c.requires.agrees in
+    let given = c.args.self.now.known.given in
+    let want = want_of c.args.guest.now in
+    let next : c.next-ranges.result ≡ next_ranges given want = c.next-ranges.ensures.ranges ∙ ap (next_ranges given) c.want.ensures in
+    let number = ap (λ (p : PrivateDevice). p.number) made.device in
+    let own : ranges_of device ≡ next_ranges given want = ap (λ (p : PrivateDevice). p.ranges) made.device ∙ next in
+    let fit : fits given want ≡ true = grind (arith, nat_tests) in
+    let outside = subst (λ n. outside (frames_part n) e ≡ outside (frames_part n) d) (sym number) made.outside in
     let pushed = rw c.unwrap.ensures at c.push.ensures.items in
-    let items : c.push.new.self.items ≡ guests ++ memory ∷ [] = pushed ∙ ap (λ (gs : List Placed). gs ++ memory ∷ []) c.in_ok-reserve.ensures.items in
-    let last = made.guest ∙ sym c.requires.agrees.count in
-    let outside = subst (λ n. outside (frames_part n) e ≡ outside (frames_part n) d) (sym made.guest) made.outside in
+    let items : c.push.new.self.items ≡ guests ++ device ∷ [] = pushed ∙ ap (λ (gs : List Vgpu). gs ++ device ∷ []) c.in_ok-reserve.ensures.items in
+    let all : all_ranges c.push.new.self.items ≡ all_ranges guests ++ next_ranges given want ∷ [] =
+    ap all_ranges items
+    ∙ all_ranges-push d e guests device given want agrees.ties agrees.among fit (number ∙ sym agrees.count) own made.holds outside
+    ∙ ap (λ (r : Ranges). all_ranges guests ++ r ∷ []) own in
+    let among = subst (λ (w : Want). AreAmong (given_after given w) (next_ranges given w)) c.want.ensures (subst (AreAmong (given_after given c.want.result)) c.next-ranges.ensures.ranges c.next-ranges.ensures.among) in
     record {
-      ties = subst (Ties e) (sym items) (ties-added d e guests memory c.requires.agrees.ties last outside made.stands);
-      count = ap length items ∙ simp length-append (ap (λ n. n + 1) c.requires.agrees.count);
-      live = omega (arith, made.live);
+      ties = subst (Ties e) (sym items) (ties-added d e guests device given want agrees.ties agrees.among fit (number ∙ sym agrees.count) own made.holds outside);
+      given = ap given_to all ∙ given_to-push (all_ranges guests) given want agrees.given;
+      among = subst (All (AreAmong (given_after given want))) (sym all) (among-push (all_ranges guests) given want agrees.among among);
+      count = ap length items ∙ simp length-append (ap (λ n. n + 1) agrees.count);
+      live = let before = agrees.live in let more = made.live in omega arith;
       few = grind (arith, nat_tests);
       eight = grind (arith, nat_tests);
     }

@@ -7,7 +7,7 @@ use Rattle.gv_text.specs.Report.{text_of}
 use Rattle.gv_run.specs.Machine.{machine_after, writes_of, run_events}
 use Rattle.gv_run.specs.Report.{events_said}
 use Rattle.gv_run.specs.Tied.{machine_in}
-use Rattle.gv_run.specs.declared.run.Run.{Run}
+use Rattle.gv_run.proofs.Ran.{ran-more}
 use Rattle.gv_run.proofs.Text.{said_none}
 use Rattle.gv_run.proofs.Values.{machine_step, report_step}
 use Rattle.gv_run.proofs.run.Run.writes.Goals as goal
@@ -27,11 +27,11 @@ loop-index-preserved g c =
     c.in_ok-event.ensures.report ∙ ap (λ b. c.loop-index.self.report.items ++ text_of (events_said m (write_at b ∷ []))) c.bytes.ensures in
     record {
       agrees = c.in_ok-event.ensures.agrees;
-      kept = c.in_ok-event.ensures.kept ∙ ap (λ (run : Run). record run { report = c.event.new.self.report }) kept.kept;
+      known = c.in_ok-event.ensures.known ∙ kept.known;
       machine = ap (λ m. run_events m rest) moved ∙ machine_step c.args.guest c.args.place c.args.width c.args.at values i (omega arith) m ∙ kept.machine;
       report = ap (λ m. c.event.new.self.report.items ++ text_of (events_said m rest)) moved
           ∙ report_step c.args.guest c.args.place c.args.width c.args.at values i (omega arith) m c.loop-index.self.report.items c.event.new.self.report.items said ∙ kept.report;
-      outside = c.in_ok-event.ensures.outside ∙ kept.outside;
+      ran = ran-more _ _ _ kept.ran c.in_ok-event.ensures.ran;
     }
 
 pub returns-clause-report : goal.returns-clause-report

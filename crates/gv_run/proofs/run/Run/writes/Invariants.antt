@@ -1,10 +1,9 @@
 use Rattle.std.proofs.Common.{◌≡◌, ◌+◌, ◌*◌, ◌++◌, drop}
 use Rattle.gv_types.specs.Memory.{bytes_of}
-use Rattle.gv_gpu.specs.Part.{outside}
 use Rattle.gv_text.specs.Report.{text_of}
 use Rattle.gv_run.specs.Machine.{writes_of, run_events}
 use Rattle.gv_run.specs.Report.{events_said}
-use Rattle.gv_run.specs.Tied.{Agrees, machine_in, all_frames}
+use Rattle.gv_run.specs.Tied.{Agrees, RanNothing, machine_in}
 use Rattle.gv_run.proofs.run.Run.writes.Given as goal
 
 -- what was done and what is left is all that is to do
@@ -16,8 +15,8 @@ invariant-loop-index g l =
     let all = writes_of l.guest l.place l.width l.at l.values in
     record {
       agrees : Agrees (g.G.Gpu.state l.gpu) l.self.known l.self.guests.items;
-      kept : l.self ≡ record l.fn.self { report = l.self.report };
+      known : l.self.known ≡ l.fn.self.known;
       machine : run_events now left ≡ run_events start all;
       report : l.self.report.items ++ text_of (events_said now left) ≡ l.fn.self.report.items ++ text_of (events_said start all);
-      outside : outside all_frames (g.G.Gpu.state l.gpu) ≡ outside all_frames (g.G.Gpu.state l.fn.gpu);
+      ran : RanNothing (g.G.Gpu.state l.fn.gpu) (g.G.Gpu.state l.gpu);
     }

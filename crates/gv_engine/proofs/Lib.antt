@@ -1,0 +1,5 @@
+pub mod Contexts
+pub mod FetchLemmas
+pub mod FreeList
+pub mod Pages
+pub mod RowLemmas

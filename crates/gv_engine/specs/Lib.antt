@@ -1,0 +1,3 @@
+pub mod Running
+pub mod Soft
+pub mod Whole

@@ -1,0 +1,19 @@
+//! The device in memory, whole: its pages, its tables, and the engines that step through the contexts
+//! that are loaded on them.
+#![tactic(auto)]
+
+mod context;
+mod entry;
+mod memory;
+mod place;
+mod rows;
+mod soft;
+mod space;
+mod step;
+mod strays;
+
+pub use entry::Entry;
+pub use soft::SoftGpu;
+
+#[cfg(test)]
+mod tests;

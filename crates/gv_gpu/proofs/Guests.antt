@@ -1,0 +1,112 @@
+-- The part of each layer is within its guest's, and the parts of two guests are apart.
+use Rattle.std.proofs.Common.{◌≡◌, ◌≢◌, ℕ, ◌<◌, Bool, true, false, not, ◌||◌, List, Option, None, Some, ap, ◌∙◌, ◌&&◌, eqb, arith, refl}
+use Rattle.std.proofs.lemmas.Bool.{false≢true, eqb-true}
+use Rattle.std.proofs.lemmas.Bool.Decides.{nat_tests}
+use Rattle.gv_types.specs.declared.ids.Label.{Label}
+use Rattle.gv_types.specs.declared.ranges.Ranges.{Ranges}
+use Rattle.gv_entry.specs.Ranges.{InParts, owns_page}
+use Rattle.gv_gpu.specs.Part.{Apart, Within, is_frame_of, is_shadow_of, is_page_of, is_named, is_in_window, is_in_windows, frames_part, entries_part, tables_part, window_part, context_part, guest_part, resting_part}
+
+frame_page : (g : ℕ) (l : Option Label) → is_frame_of g l ≡ true → is_page_of g l ≡ true
+frame_page g None is = cc
+frame_page g (Some l) is = grind (arith, nat_tests)
+
+shadow_page : (g : ℕ) (b : Bool) (l : Option Label) → (b && is_shadow_of g l) ≡ true → is_page_of g l ≡ true
+shadow_page g b None is = grind (arith, nat_tests)
+shadow_page g b (Some l) is = grind (arith, nat_tests)
+
+or_left : (a b : Bool) → a ≡ true → (a || b) ≡ true
+or_left true b h = refl
+or_left false b h = cc
+
+or_right : (a b : Bool) → b ≡ true → (a || b) ≡ true
+or_right true b h = refl
+or_right false b h = h
+
+one_window : (g e i : ℕ) → e < 4 → is_in_window g e i ≡ true → is_in_windows g i ≡ true
+one_window g e i four is = grind (arith, nat_tests)
+
+module _ (g : ℕ) (ranges : Ranges) (here : ℕ → Bool) where
+  pub frames-within : Within (frames_part g) (guest_part g ranges here)
+  frames-within = record { page = λ n l h. frame_page g l h; entry = λ i h. cc; engine = λ e h. cc; spare = λ h. refl }
+
+  pub entries-within : Within (entries_part ranges) (guest_part g ranges here)
+  entries-within = record { page = λ n l h. cc; entry = λ i h. or_left (owns_page ranges i) (is_in_windows g i) h; engine = λ e h. cc; spare = λ h. refl }
+
+  pub tables-within : (own : List ℕ) → Within (tables_part g own) (guest_part g ranges here)
+  tables-within own = record { page = λ n l h. shadow_page g (is_named own n) l h; entry = λ i h. cc; engine = λ e h. cc; spare = λ h. refl }
+
+  pub window-within : (engine : ℕ) (own : List ℕ) → engine < 4 → Within (window_part g engine own) (guest_part g ranges here)
+  window-within engine own four = record {
+    page = λ n l h. shadow_page g (is_named own n) l h;
+    entry = λ i h. or_right (owns_page ranges i) (is_in_windows g i) (one_window g engine i four h);
+    engine = λ e h. cc;
+    spare = λ h. refl;
+  }
+
+  pub context-within : (engine image : ℕ) → here engine ≡ true → Within (context_part g engine image) (guest_part g ranges here)
+  context-within engine image owned = record {
+    page = λ n l h. shadow_page g (eqb n image) l h;
+    entry = λ i h. cc;
+    engine = λ e h. ap here (eqb-true e engine h) ∙ owned;
+    spare = λ h. refl;
+  }
+
+-- The memory and the entries of one guest are apart from each other.
+no_page : {A : Type 0} → false ≡ true → A
+no_page is = absurd (false≢true is)
+
+pub apart-entries-frames : (ranges : Ranges) (g : ℕ) → Apart (entries_part ranges) (frames_part g)
+apart-entries-frames ranges g = record { dead = λ n. refl; page = λ n l h. no_page h; entry = λ i h. refl; engine = λ e h. refl; spare = λ h. refl }
+
+pub apart-frames-entries : (g : ℕ) (ranges : Ranges) → Apart (frames_part g) (entries_part ranges)
+apart-frames-entries g ranges = record { dead = λ n. refl; page = λ n l h. refl; entry = λ i h. no_page h; engine = λ e h. refl; spare = λ h. refl }
+
+other_page : (g k : ℕ) (l : Option Label) → g ≢ k → is_page_of g l ≡ true → is_page_of k l ≡ false
+other_page g k None differ is = refl
+other_page g k (Some l) differ is = grind (arith, nat_tests)
+
+neither : (a b : Bool) → a ≡ false → b ≡ false → (a || b) ≡ false
+neither a b first second = ap (λ x. x || b) first ∙ second
+
+other_window : (g k i : ℕ) → g ≢ k → is_in_windows g i ≡ true → is_in_windows k i ≡ false
+other_window g k i differ is = grind (arith, nat_tests)
+
+below_windows : (ranges : Ranges) (k i : ℕ) → InParts ranges → owns_page ranges i ≡ true → is_in_windows k i ≡ false
+below_windows ranges k i parts own = let low = parts.low in let high = parts.high in grind (arith, nat_tests)
+
+past_ranges : (ranges : Ranges) (g i : ℕ) → InParts ranges → is_in_windows g i ≡ true → owns_page ranges i ≡ false
+past_ranges ranges g i parts own = let low = parts.low in let high = parts.high in grind (arith, nat_tests)
+
+either : (a b : Bool) (P : Type 0) → (a || b) ≡ true → (a ≡ true → P) → (b ≡ true → P) → P
+either true b P is first second = first refl
+either false b P is first second = second is
+
+pub apart-guests : (g k : ℕ) (r s : Ranges) (here : ℕ → Bool) → g ≢ k → InParts r → InParts s → ((page : ℕ) → owns_page r page ≡ true → owns_page s page ≡ false) → Apart (guest_part g r here) (resting_part k s)
+apart-guests g k r s here differ own other apart = record {
+  dead = λ n. refl;
+  page = λ n l h. other_page g k l differ h;
+  entry = λ i h. either (owns_page r i) (is_in_windows g i) _ h
+      (λ mine. neither (owns_page s i) (is_in_windows k i) (apart i mine) (below_windows r k i own mine))
+      (λ window. neither (owns_page s i) (is_in_windows k i) (past_ranges s g i other window) (other_window g k i differ window));
+  engine = λ e h. refl;
+  spare = λ h. refl;
+}
+
+-- the memory of a guest that isn't there yet
+pub apart-guest-frames : (g k : ℕ) (r : Ranges) (here : ℕ → Bool) → g ≢ k → Apart (guest_part g r here) (frames_part k)
+apart-guest-frames g k r here differ = record {
+  dead = λ n. refl;
+  page = λ n l h. no_frame l (other_page g k l differ h);
+  entry = λ i h. refl;
+  engine = λ e h. refl;
+  spare = λ h. refl;
+}
+  where
+    no_frame : (l : Option Label) → is_page_of k l ≡ false → is_frame_of k l ≡ false
+    no_frame None is = refl
+    no_frame (Some l) is = ap (λ b. b && not l.shadow) is
+
+-- a page of the global table that the guest doesn't own, before the windows
+pub unowned-entry : (g page : ℕ) (r : Ranges) (here : ℕ → Bool) → owns_page r page ≡ false → page < 0xFC000 → (guest_part g r here).entry page ≡ false
+unowned-entry g page r here free before = neither (owns_page r page) (is_in_windows g page) free (let b = before in grind (arith, nat_tests))

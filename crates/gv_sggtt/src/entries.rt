@@ -1,0 +1,77 @@
+ghost use Rattle.std.specs.Prelude.{◌≡◌, ◌+◌, ◌<◌, length, IfOk, MatchOption, replicate, slice_index, slice_set};
+
+use gv_types::OutOfMemory;
+use std::alloc::Global;
+use std::marker::Model;
+
+/// Entries by their places, of which those that were written since all were 0 are known. So setting all
+/// to 0 again costs what was written, and not what there is. A clause sees the values, and how many
+/// places are to be set to 0.
+#[derive(Drop)]
+pub(crate) struct Entries {
+    values: Vec<u64>,
+    // the places that were written, each once, with room for all
+    written: Vec<usize>,
+    // whether a place is among them
+    is_written: Vec<bool>,
+}
+
+impl Model for Entries {
+    ghost use Rattle.gv_sggtt.specs.Entries.{Kept, AreWritten};
+
+    ghost Value = { Kept };
+
+    ghost use Rattle.std.specs.Prelude.{length, ◌≤◌, vec_capacity};
+
+    ghost view = { λ s. record {
+      values = s.values.items;
+      left = length s.written.items;
+    } };
+
+    ghost invariant = { λ s. AreWritten s.values.items s.written.items s.is_written.items × (length s.values.items ≤ vec_capacity s.written) };
+}
+
+impl Entries {
+    /// So many entries of 0.
+    pub(crate) fn new(alloc: Global, count: usize) -> Result<Entries, OutOfMemory>
+        ensures { IfOk result (λ s. s.values ≡ replicate count 0) }
+    {
+        Ok(Entries {
+            values: vec![in alloc; 0; count]?,
+            written: Vec::with_capacity(alloc, count)?,
+            is_written: vec![in alloc; false; count]?,
+        })
+    }
+
+    pub(crate) fn get(&self, place: usize) -> u64
+        requires { place < length self.now.values }
+        ensures { result ≡ slice_index self.now.values place }
+    {
+        self.values[place]
+    }
+
+    pub(crate) fn set(&mut self, place: usize, value: u64)
+        requires { place < length self.old.values }
+        ensures { self.new.values ≡ slice_set self.old.values place value }
+    {
+        self.values[place] = value;
+        if self.is_written[place] {
+            return;
+        }
+        self.is_written[place] = true;
+        self.written.push(place).unwrap();
+    }
+
+    /// Sets the entry of one of the written places to 0, and answers the place; none, where every entry
+    /// is 0 and none is left.
+    pub(crate) fn take_written(&mut self) -> Option<usize>
+        ensures there { MatchOption result (self.new ≡ self.old) (λ place. place < length self.old.values) }
+        ensures values { MatchOption result (self.old.values ≡ replicate (length self.old.values) 0) (λ place. self.new.values ≡ slice_set self.old.values place 0) }
+        ensures left { MatchOption result (self.old.left ≡ 0) (λ _. self.new.left + 1 ≡ self.old.left) }
+    {
+        let place = self.written.pop()?;
+        self.is_written[place] = false;
+        self.values[place] = 0;
+        Some(place)
+    }
+}

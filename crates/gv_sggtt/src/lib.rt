@@ -1,0 +1,10 @@
+//! The shadow global table: one guest's entries of the global table (GGTT), and the physical entries that
+//! the device has for them.
+#![tactic(auto)]
+
+mod entries;
+mod table;
+#[cfg(test)]
+mod tests;
+
+pub use table::GlobalTable;

@@ -1,0 +1,4 @@
+pub mod Access
+pub mod Device
+pub mod Holds
+pub mod Step
