@@ -1,31 +1,8 @@
 ghost use Rattle.std.specs.Prelude.{◌≡◌, ◌+◌, ◌<◌, ◌^◌, IfSome, IsSome, Option};
 ghost use Rattle.gv_gpu.specs.Physical.{live_page, page_of, entry_in, third_table, second_table, first_table, leaf, entry_at, read_page, write_page, word_in, word_stored, byte_of, with_byte, byte_at, byte_stored, operand_at, operand_stored, dword_at};
-ghost use Rattle.gv_types.specs.Memory.{half_of, with_half};
 
 use crate::SoftGpu;
-use gv_gpu::Gpu;
-
-/// The half of a word that an address, a multiple of 4, lies in.
-pub(crate) fn half_of(word: u64, at: u64) -> u32
-    ensures { result ≡ half_of word at }
-{
-    if at % 8 == 0 {
-        (word & 0xffff_ffff) as u32
-    } else {
-        (word >> 32) as u32
-    }
-}
-
-/// The word with another such half.
-pub(crate) fn with_half(word: u64, at: u64, value: u32) -> u64
-    ensures { result ≡ with_half word at value }
-{
-    if at % 8 == 0 {
-        (word >> 32) * 0x1_0000_0000 + u64::from(value)
-    } else {
-        u64::from(value) * 0x1_0000_0000 + (word & 0xffff_ffff)
-    }
-}
+use gv_gpu::{Gpu, half, with_half};
 
 /// A byte of a word, least first.
 fn byte_of(word: u64, at: u64) -> u8
@@ -186,7 +163,7 @@ impl SoftGpu {
         ensures { result ≡ operand_at (⟦<SoftGpu as Gpu>⟧.state self.now) root global at }
     {
         let page = self.read_page(root, global, at);
-        half_of(self.word_in(page, at), at)
+        half(self.word_in(page, at), at)
     }
 
     #[tactic(auto, unfolding(gv_gpu::specs::Physical::operand_stored))]

@@ -5,7 +5,7 @@ use crate::context::Context;
 use crate::strays::either;
 use gv_cmd::SpaceMeaning;
 use gv_exec::Space;
-use gv_gpu::Gpu;
+use gv_gpu::{Gpu, half, with_half};
 use gv_types::EngineId;
 
 /// Per-process addresses count modulo this.
@@ -76,12 +76,12 @@ impl Space for Running<'_> {
     }
 
     fn general(&self, n: u8) -> u32 {
-        crate::memory::half_of(self.gpu.general(self.engine, n / 2), 4 * u64::from(n))
+        half(self.gpu.general(self.engine, n / 2), 4 * u64::from(n))
     }
 
     fn set_general(&mut self, n: u8, value: u32) {
         let old = self.gpu.general(self.engine, n / 2);
-        let word = crate::memory::with_half(old, 4 * u64::from(n), value);
+        let word = with_half(old, 4 * u64::from(n), value);
         self.gpu.set_general(self.engine, n / 2, word);
     }
 }

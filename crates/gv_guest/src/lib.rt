@@ -2,7 +2,5 @@
 #![tactic(auto)]
 
 mod memory;
-mod word;
 
 pub use memory::Memory;
-pub use word::{half, with_half};

@@ -4,8 +4,7 @@ ghost use Rattle.gv_gpu.specs.Part.{outside, frames_part};
 ghost use Rattle.gv_types.specs.Memory.{memory_read, memory_write, word_of, with_word, zero_memory, bytes_of, all_ones};
 ghost use Rattle.gv_guest.specs.Placed.{Stands, memory_in, nowhere};
 
-use crate::word::{half, with_half};
-use gv_gpu::Gpu;
+use gv_gpu::{Gpu, half, with_half};
 use gv_types::{GuestId, Label, OutOfMemory, Width};
 use std::alloc::Global;
 use std::marker::Model;
@@ -114,7 +113,7 @@ impl Memory {
         }
         let word = self.word(gpu, at / 8);
         match width {
-            Width::Four => half(word, at),
+            Width::Four => u64::from(half(word, at)),
             Width::Eight => word,
         }
     }
@@ -135,7 +134,7 @@ impl Memory {
         }
         let number = at / 8;
         let word = match width {
-            Width::Four => with_half(self.word(gpu, number), at, value),
+            Width::Four => with_half(self.word(gpu, number), at, value as u32),
             Width::Eight => value,
         };
         self.set_word(gpu, number, word)

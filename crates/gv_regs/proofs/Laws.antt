@@ -5,6 +5,7 @@ use Rattle.std.proofs.lemmas.Bool.Decides.{nat_tests}
 use Rattle.std.proofs.lemmas.Nat.{or_lt, and_le_l, and_le_r}
 use Rattle.gv_types.specs.declared.ranges.Ranges.{Ranges}
 use Rattle.gv_types.specs.declared.ranges.Span.{Span}
+use Rattle.gv_regs.proofs.Dwords.{both}
 use Rattle.gv_regs.specs.declared.constant.Constant.{Constant}
 use Rattle.gv_regs.specs.declared.constant.Constant.TheVariants.{Number, GuestNumber, LowBase, LowSize, HighBase, HighSize}
 use Rattle.gv_regs.specs.declared.effect.Target.{Target}
@@ -114,13 +115,9 @@ choose_below false x y first second = second
 pub AreDwords-reset : AreDwords reset_registers
 AreDwords-reset offset = choose_below (keeps offset) (reset_at offset) 0 (λ kept. omega (arith, reset_at-zero offset kept)) (lit< tt)
 
-and_true : (a b : Bool) → (a && b) ≡ true → a ≡ true
-and_true true b e = refl
-and_true false b e = e
-
 pub AreDwords-engine_reset : (engine : ℕ) (map : ℕ → ℕ) → AreDwords map → AreDwords (engine_reset engine map)
 AreDwords-engine_reset engine map dwords offset =
-    choose_below (keeps offset && _) (reset_at offset) (map offset) (λ e. omega (arith, reset_at-zero offset (and_true (keeps offset) _ e))) (dwords offset)
+    choose_below (keeps offset && _) (reset_at offset) (map offset) (λ e. omega (arith, reset_at-zero offset (both (keeps offset) _ e).0)) (dwords offset)
 
 masked_below : (old value : ℕ) → value < 2 ^ 32 → masked old value < 2 ^ 32
 masked_below old value small =

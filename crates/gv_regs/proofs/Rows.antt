@@ -2,6 +2,7 @@
 use Rattle.std.proofs.Common.{◌≡◌, ℕ, ◌+◌, suc, ◌-◌, ◌/◌, ◌*◌, ◌%◌, ◌<◌, ◌≤◌, Bool, true, false, ◌&&◌, ◌||◌, cond, leb, ltb, eqb, eq-eqb, get_or, take, drop, if◌then◌else◌, List, [], ◌∷◌, ◌++◌, Option, Some, None, refl, sym, ap, ◌∙◌, arith}
 use Rattle.std.proofs.lemmas.Bool.Decides.{nat_tests}
 use Rattle.std.specs.List.{find, list_all, AllByRecursion}
+use Rattle.gv_regs.proofs.Dwords.{both}
 use Rattle.gv_regs.specs.Table.{Row, covers, registers, row_at, target_of, target_at, shared, own, Missing}
 use Rattle.gv_regs.specs.declared.effect.Target.TheVariants.{Absent}
 
@@ -17,10 +18,6 @@ find_by test row rest e = rw e refl
 
 pub covers-apart : (low high : ℕ) (row : Row) (offset : ℕ) → is_apart low high row ≡ true → low ≤ offset → offset < high → covers row offset ≡ false
 covers-apart low high row offset = uncovered row.first (row.first + 4 * row.dwords) low high offset
-
-both : (a b : Bool) → (a && b) ≡ true → (a ≡ true) × (b ≡ true)
-both true b e = (refl, e)
-both false b e = absurd (let f : false ≡ true = e in cc)
 
 -- no row covers an offset of a span that all are apart from
 pub find-apart : (low high offset : ℕ) (rows : List Row) → list_all (is_apart low high) rows ≡ true → low ≤ offset → offset < high → find (λ row. covers row offset) rows ≡ None

@@ -10,8 +10,8 @@ ghost use Rattle.gv_vgpu.specs.Access.{IsAccess, end_of};
 ghost use Rattle.gv_vgpu.specs.Device.{new_device, function_reset, aperture_frame, aperture_read, aperture_written, table_at, table_read, table_written, dword_read, dword_written, dwords_read, dwords_written, one_engine_reset, engines_reset, range_read, range_written};
 ghost use Rattle.gv_vgpu.specs.Step.{guest_of, value_read, value_written, device_after, reply_of, irq_where};
 
-use gv_gpu::{Gpu, GpuFailed};
-use gv_guest::{Memory, half, with_half};
+use gv_gpu::{Gpu, GpuFailed, half, with_half};
+use gv_guest::Memory;
 use gv_irq::Irq;
 use gv_regs::{Registers, Target, resets, target};
 use gv_sggtt::GlobalTable;
@@ -140,7 +140,7 @@ impl Vgpu {
     {
         let entry = self.table.entry(((offset - TABLE_AT) / 8) as u32);
         match width {
-            Width::Four => half(entry, offset),
+            Width::Four => u64::from(half(entry, offset)),
             Width::Eight => entry,
         }
     }
@@ -159,7 +159,7 @@ impl Vgpu {
     {
         let page = ((offset - TABLE_AT) / 8) as u32;
         let entry = match width {
-            Width::Four => with_half(self.table.entry(page), offset, value),
+            Width::Four => with_half(self.table.entry(page), offset, value as u32),
             Width::Eight => value,
         };
         self.table.write_entry(gpu, &self.memory, page, entry)
