@@ -1,4 +1,5 @@
 pub mod Changed
+pub mod Changes
 pub mod Effects
 pub mod Examples
 pub mod Guests

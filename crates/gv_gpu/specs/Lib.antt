@@ -1,3 +1,4 @@
+pub mod Change
 pub mod Context
 pub mod Device
 pub mod Part

@@ -14,7 +14,8 @@ pub record Part : Type 0 where
   pub engine : ℕ → Bool
   pub spare : Bool
 
--- The device without the part. The counts of live pages, pokes and faults are no one's.
+-- The device without the part. The counts of live pages and of pokes are no one's. That of faults belongs to
+-- no part: a call that can't fail leaves it as it was.
 abbrev pub outside : Part → Device → Device
 outside p d = record d {
   label = λ n. if p.page n (d.label n) then None else d.label n;
@@ -25,7 +26,6 @@ outside p d = record d {
   loaded = λ e. if p.engine e then None else d.loaded e;
   pokes = 0;
   spare = if p.spare then 0 else d.spare;
-  faults = 0;
 }
 
 -- the part alone
@@ -106,11 +106,31 @@ window_part guest engine own = record { page = λ n l. is_named own n && is_shad
 abbrev pub context_part : ℕ → ℕ → ℕ → Part
 context_part guest engine image = record { page = λ n l. (n == image) && is_shadow_of guest l; entry = λ _. false; engine = λ e. e == engine; spare = false }
 
+-- One engine has its general registers and its loaded context.
+abbrev pub engine_part : ℕ → Part
+engine_part engine = record { page = λ _ _. false; entry = λ _. false; engine = λ e. e == engine; spare = false }
+
+-- A step of an engine has that, the frames of the guest that owns the engine, and room in the journal.
+abbrev pub step_part : ℕ → ℕ → Part
+step_part guest engine = record { page = λ _ l. is_frame_of guest l; entry = λ _. false; engine = λ e. e == engine; spare = true }
+
+-- A guest's reads and writes have its frames, and the entries of its ranges.
+abbrev pub access_part : ℕ → Ranges → Part
+access_part guest ranges = record { page = λ _ l. is_frame_of guest l; entry = λ i. owns_page ranges i; engine = λ _. false; spare = false }
+
+-- The elements at work of a guest have its shadow pages, its windows, and the engines that it owns.
+abbrev pub elements_part : ℕ → (ℕ → Bool) → Part
+elements_part guest here = record { page = λ _ l. is_shadow_of guest l; entry = λ i. is_in_windows guest i; engine = here; spare = false }
+
 -- One guest has all of its pages, its entries and its windows, and, on the engines that it owns, their
 -- state; and it may make room in the journal.
 abbrev pub guest_part : ℕ → Ranges → (ℕ → Bool) → Part
 guest_part guest ranges here = record { page = λ _ l. is_page_of guest l; entry = λ i. owns_page ranges i || is_in_windows guest i; engine = here; spare = true }
 
--- What of this no other guest's call changes: all but the engines and the room.
-abbrev pub resting_part : ℕ → Ranges → Part
-resting_part guest ranges = record { page = λ _ l. is_page_of guest l; entry = λ i. owns_page ranges i || is_in_windows guest i; engine = λ _. false; spare = false }
+-- What of this no other guest's call changes: all but the room.
+abbrev pub standing_part : ℕ → Ranges → (ℕ → Bool) → Part
+standing_part guest ranges here = record { page = λ _ l. is_page_of guest l; entry = λ i. owns_page ranges i || is_in_windows guest i; engine = here; spare = false }
+
+-- no engine is owned by both
+abbrev pub AreDisjoint : (ℕ → Bool) → (ℕ → Bool) → Type 0
+AreDisjoint here there = (e : ℕ) → here e ≡ true → there e ≡ false
