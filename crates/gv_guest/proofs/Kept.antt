@@ -3,14 +3,18 @@ use Rattle.std.proofs.Common.{◌≡◌, ℕ, ◌<◌, true, Some, length, get_o
 use Rattle.std.proofs.lemmas.List.{same_lists, get_or-map, length-map}
 use Rattle.gv_gpu.specs.Device.{Device}
 use Rattle.gv_types.specs.declared.ranges.Ranges.{Ranges}
-use Rattle.gv_gpu.specs.Part.{Part, inside, outside, frames_part, entries_part}
+use Rattle.gv_gpu.specs.Change.{ChangesOnly, Leaves}
+use Rattle.gv_gpu.specs.Part.{Part, inside, frames_part, entries_part}
 use Rattle.gv_gpu.proofs.Guests.{apart-entries-frames}
-use Rattle.gv_gpu.proofs.Parts.{inside-kept}
+use Rattle.gv_gpu.proofs.Changes.{leaves}
 use Rattle.gv_gpu.proofs.Seen.{label-same, words-same}
 use Rattle.gv_guest.specs.Placed.{Placed, Stands, memory_in, frame_label}
 use Rattle.gv_guest.proofs.Written.{own_frame}
 
-module _ (w : Part) (d e : Device) (placed : Placed) (own : (n : ℕ) → w.page n (Some (frame_label placed.guest)) ≡ true) (same : inside w e ≡ inside w d) where
+module _ (w : Part) (d e : Device) (placed : Placed) (own : (n : ℕ) → w.page n (Some (frame_label placed.guest)) ≡ true) (left : Leaves w d e) where
+  same : inside w e ≡ inside w d
+  same = left.same
+
   label : (k : ℕ) → d.label k ≡ Some (frame_label placed.guest) → e.label k ≡ Some (frame_label placed.guest)
   label k h = label-same w d e same k (frame_label placed.guest) (own k) h
 
@@ -30,12 +34,12 @@ module _ (w : Part) (d e : Device) (placed : Placed) (own : (n : ℕ) → w.page
       get_or-map e.words placed.pages k 0 x hk ∙ words-same w d e same page (frame_label placed.guest) (own page) (stands.labelled k hk) ∙ sym (get_or-map d.words placed.pages k 0 x hk))
 
 -- What changes entries of the global table alone leaves every memory.
-module _ (ranges : Ranges) (d e : Device) (placed : Placed) (same : outside (entries_part ranges) e ≡ outside (entries_part ranges) d) where
-  frames_kept : inside (frames_part placed.guest) e ≡ inside (frames_part placed.guest) d
-  frames_kept = inside-kept (entries_part ranges) (frames_part placed.guest) d e (apart-entries-frames ranges placed.guest) same
+module _ (ranges : Ranges) (n : ℕ) (d e : Device) (placed : Placed) (changes : ChangesOnly (entries_part ranges) n d e) where
+  frames_left : Leaves (frames_part placed.guest) d e
+  frames_left = leaves (apart-entries-frames ranges placed.guest) changes
 
   pub stands-entries : Stands d placed → Stands e placed
-  stands-entries stands = stands-kept (frames_part placed.guest) d e placed (λ n. own_frame placed.guest) frames_kept stands
+  stands-entries stands = stands-kept (frames_part placed.guest) d e placed (λ n. own_frame placed.guest) frames_left stands
 
   pub memory-entries : Stands d placed → memory_in e placed ≡ memory_in d placed
-  memory-entries stands = memory-kept (frames_part placed.guest) d e placed (λ n. own_frame placed.guest) frames_kept stands
+  memory-entries stands = memory-kept (frames_part placed.guest) d e placed (λ n. own_frame placed.guest) frames_left stands

@@ -4,7 +4,8 @@ use Rattle.std.proofs.lemmas.List.{same_lists, get_or-map, length-map, length-se
 use Rattle.std.proofs.lemmas.Bool.{eq-eqb}
 use Rattle.std.proofs.lemmas.Grind.{common_steps}
 use Rattle.gv_types.specs.Memory.{with_word}
-use Rattle.gv_gpu.specs.Device.{Device, put, poked}
+use Rattle.gv_gpu.specs.Change.{ChangesOnly}
+use Rattle.gv_gpu.specs.Device.{Device, put, poked, counted}
 use Rattle.gv_gpu.specs.Part.{outside, frames_part, is_frame_of}
 use Rattle.gv_gpu.proofs.Changed.{outside-poked}
 use Rattle.gv_guest.specs.Placed.{Placed, Stands, memory_in, frame_label}
@@ -34,8 +35,13 @@ module _ (d e : Device) (placed : Placed) (number value page : ℕ) (stands : St
       let m = get_or-map d.words placed.pages (number / 512) 0 [] frame in
       rw (step, at) (rw m (map_put d.words placed.pages (number / 512) (set (d.words (get_or placed.pages (number / 512) 0)) (number % 512) value) stands.apart frame))
 
-  pub frames-poked : outside (frames_part placed.guest) e ≡ outside (frames_part placed.guest) d
+  pub frames-poked : ChangesOnly (frames_part placed.guest) 1 d e
   frames-poked =
       let label : d.label page ≡ Some (frame_label placed.guest) = ap d.label at ∙ stands.labelled (number / 512) frame in
-      ap (outside (frames_part placed.guest)) step
-      ∙ outside-poked (frames_part placed.guest) d page (ap (is_frame_of placed.guest) label ∙ own_frame placed.guest) (number % 512) value
+      let pokes : e.pokes ≡ counted d.pokes = ap (λ (x : Device). x.pokes) step in
+      record {
+        outside = ap (outside (frames_part placed.guest)) step
+            ∙ outside-poked (frames_part placed.guest) d page (ap (is_frame_of placed.guest) label ∙ own_frame placed.guest) (number % 512) value;
+        live = ap (λ (x : Device). x.live) step;
+        pokes = omega arith;
+      }

@@ -1,5 +1,5 @@
 ghost use Rattle.std.specs.Prelude.{◌≡◌, ℕ, ◌+◌, ◌*◌, ◌/◌, ◌%◌, ◌^◌, ◌<◌, ◌≤◌, length, slice_index, IfOk, OnOk};
-ghost use Rattle.gv_gpu.specs.Device.{counted};
+ghost use Rattle.gv_gpu.specs.Change.{ChangesOnly};
 ghost use Rattle.gv_gpu.specs.Part.{outside, frames_part};
 ghost use Rattle.gv_types.specs.Memory.{memory_read, memory_write, word_of, with_word, zero_memory, bytes_of, all_ones};
 ghost use Rattle.gv_guest.specs.Placed.{Stands, memory_in, nowhere};
@@ -94,9 +94,7 @@ impl Memory {
         requires within { number < length self.now.pages * 512 }
         ensures memory { memory_in (G.state gpu.new) self.now ≡ with_word (memory_in (G.state gpu.old) self.now) number value }
         ensures stands { Stands (G.state gpu.new) self.now }
-        ensures outside { outside (frames_part self.now.guest) (G.state gpu.new) ≡ outside (frames_part self.now.guest) (G.state gpu.old) }
-        ensures live { (G.state gpu.new).live ≡ (G.state gpu.old).live }
-        ensures pokes { (G.state gpu.new).pokes ≡ counted (G.state gpu.old).pokes }
+        ensures changes { ChangesOnly (frames_part self.now.guest) 1 (G.state gpu.old) (G.state gpu.new) }
     {
         let page = self.page_of(number);
         gpu.poke(page, (number % 512) as usize, value)
@@ -125,9 +123,7 @@ impl Memory {
         requires fits { value ≤ all_ones width }
         ensures memory { memory_in (G.state gpu.new) self.now ≡ memory_write (memory_in (G.state gpu.old) self.now) width at value }
         ensures stands { Stands (G.state gpu.new) self.now }
-        ensures outside { outside (frames_part self.now.guest) (G.state gpu.new) ≡ outside (frames_part self.now.guest) (G.state gpu.old) }
-        ensures live { (G.state gpu.new).live ≡ (G.state gpu.old).live }
-        ensures pokes { (G.state gpu.new).pokes ≤ counted (G.state gpu.old).pokes }
+        ensures changes { ChangesOnly (frames_part self.now.guest) 1 (G.state gpu.old) (G.state gpu.new) }
     {
         if at >= u64::from(self.frames()) * 4096 {
             return;
@@ -138,33 +134,5 @@ impl Memory {
             Width::Eight => value,
         };
         self.set_word(gpu, number, word)
-    }
-}
-
-#[cfg(test)]
-mod tests {
-    use crate::Memory;
-    use gv_engine::SoftGpu;
-    use gv_types::{GuestId, Width};
-    use std::test::Fail;
-
-    // Two frames: the last word of the first, the first of the second, and past the end.
-    #[test]
-    fn two_frames(rt: HostRuntime) -> Result<(), Fail> {
-        let mut gpu = SoftGpu::new(rt.alloc());
-        let memory = Memory::new(rt.alloc(), &mut gpu, GuestId(0), 2)?;
-        assert_eq!(rt; memory.frames(), 2);
-        memory.write(&mut gpu, 0xff8, Width::Eight, 0x1122_3344_5566_7788);
-        memory.write(&mut gpu, 0xffc, Width::Four, 0xaabb_ccdd);
-        memory.write(&mut gpu, 0x1000, Width::Four, 7);
-        memory.write(&mut gpu, 0x2000, Width::Eight, 9);
-        assert_eq!(rt;
-            memory.read(&gpu, 0xff8, Width::Eight),
-            0xaabb_ccdd_5566_7788
-        );
-        assert_eq!(rt; memory.read(&gpu, 0xff8, Width::Four), 0x5566_7788);
-        assert_eq!(rt; memory.read(&gpu, 0x1000, Width::Eight), 7);
-        assert_eq!(rt; memory.read(&gpu, 0x2000, Width::Four), 0xffff_ffff);
-        Ok(())
     }
 }
