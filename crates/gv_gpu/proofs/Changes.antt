@@ -1,9 +1,10 @@
 -- Changes of parts, one after another and of larger parts, and what they leave.
-use Rattle.std.proofs.Common.{◌≡◌, ℕ, ◌+◌, ◌≤◌, [], List, refl, ap, sym, ◌∙◌, arith}
+use Rattle.std.proofs.Common.{◌≡◌, ℕ, ◌+◌, ◌≤◌, true, [], List, refl, ap, sym, ◌∙◌, arith}
 use Rattle.std.proofs.lemmas.List.{append-nil}
 use Rattle.gv_gpu.specs.Change.{ChangesOnly, Leaves, Ran}
-use Rattle.gv_gpu.specs.Device.{Device}
+use Rattle.gv_gpu.specs.Device.{Device, poked, with_global}
 use Rattle.gv_gpu.specs.Part.{Part, Apart, Within, outside, inside}
+use Rattle.gv_gpu.proofs.Changed.{outside-global, outside-poked}
 use Rattle.gv_gpu.proofs.Parts.{inside-kept, outside-widen}
 
 pub changes-none : (p : Part) (n : ℕ) (d : Device) → ChangesOnly p n d d
@@ -25,6 +26,14 @@ changes-widen {p} {w} {n} {d} {e} within changes = record {
   live = changes.live;
   pokes = changes.pokes;
 }
+
+-- an entry of the part is set
+pub global-changes : (p : Part) (d : Device) (index entry : ℕ) → p.entry index ≡ true → ChangesOnly p 0 d (with_global d index entry)
+global-changes p d index entry own = record { outside = outside-global p d index entry own; live = refl; pokes = omega arith }
+
+-- a page of the part is poked
+pub poked-changes : (p : Part) (d : Device) (page index value : ℕ) → p.page page (d.label page) ≡ true → ChangesOnly p 1 d (poked d page index value)
+poked-changes p d page index value own = record { outside = outside-poked p d page own index value; live = refl; pokes = omega arith }
 
 -- What changes one part leaves each that is apart from it.
 pub leaves : {p q : Part} {n : ℕ} {d e : Device} → Apart p q → ChangesOnly p n d e → Leaves q d e

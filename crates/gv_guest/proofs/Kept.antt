@@ -8,7 +8,7 @@ use Rattle.gv_gpu.specs.Part.{Part, inside, frames_part, entries_part}
 use Rattle.gv_gpu.proofs.Guests.{apart-entries-frames}
 use Rattle.gv_gpu.proofs.Changes.{leaves}
 use Rattle.gv_gpu.proofs.Seen.{label-same, words-same}
-use Rattle.gv_guest.specs.Placed.{Placed, Stands, memory_in, frame_label}
+use Rattle.gv_guest.specs.Placed.{Placed, Stands, KeepsMemory, memory_in, frame_label}
 use Rattle.gv_guest.proofs.Written.{own_frame}
 
 module _ (w : Part) (d e : Device) (placed : Placed) (own : (n : ℕ) → w.page n (Some (frame_label placed.guest)) ≡ true) (left : Leaves w d e) where
@@ -38,8 +38,8 @@ module _ (ranges : Ranges) (n : ℕ) (d e : Device) (placed : Placed) (changes :
   frames_left : Leaves (frames_part placed.guest) d e
   frames_left = leaves (apart-entries-frames ranges placed.guest) changes
 
-  pub stands-entries : Stands d placed → Stands e placed
-  stands-entries stands = stands-kept (frames_part placed.guest) d e placed (λ n. own_frame placed.guest) frames_left stands
-
-  pub memory-entries : Stands d placed → memory_in e placed ≡ memory_in d placed
-  memory-entries stands = memory-kept (frames_part placed.guest) d e placed (λ n. own_frame placed.guest) frames_left stands
+  pub memory-entries : Stands d placed → KeepsMemory placed d e
+  memory-entries stands = record {
+    stands = stands-kept (frames_part placed.guest) d e placed (λ n. own_frame placed.guest) frames_left stands;
+    memory = memory-kept (frames_part placed.guest) d e placed (λ n. own_frame placed.guest) frames_left stands;
+  }

@@ -1,13 +1,13 @@
 -- A write to one page, seen by the frames.
-use Rattle.std.proofs.Common.{◌≡◌, ℕ, ◌*◌, ◌/◌, ◌%◌, ◌<◌, List, [], length, get_or, set, map, arith, ap, ◌∙◌, true, Some, refl}
+use Rattle.std.proofs.Common.{◌≡◌, ℕ, ◌*◌, ◌/◌, ◌%◌, ◌<◌, List, [], length, get_or, set, map, arith, ap, sym, subst, ◌∙◌, true, Some, refl}
 use Rattle.std.proofs.lemmas.List.{same_lists, get_or-map, length-map, length-set}
 use Rattle.std.proofs.lemmas.Bool.{eq-eqb}
 use Rattle.std.proofs.lemmas.Grind.{common_steps}
 use Rattle.gv_types.specs.Memory.{with_word}
 use Rattle.gv_gpu.specs.Change.{ChangesOnly}
-use Rattle.gv_gpu.specs.Device.{Device, put, poked, counted}
-use Rattle.gv_gpu.specs.Part.{outside, frames_part, is_frame_of}
-use Rattle.gv_gpu.proofs.Changed.{outside-poked}
+use Rattle.gv_gpu.specs.Device.{Device, put, poked}
+use Rattle.gv_gpu.specs.Part.{frames_part, is_frame_of}
+use Rattle.gv_gpu.proofs.Changes.{poked-changes}
 use Rattle.gv_guest.specs.Placed.{Placed, Stands, memory_in, frame_label}
 
 put_at : (f : ℕ → List ℕ) (pages : List ℕ) (k j : ℕ) (x : List ℕ) → ((j k : ℕ) → j < length pages → k < length pages → get_or pages j 0 ≡ get_or pages k 0 → j ≡ k) → k < length pages → j < length pages → put f (get_or pages k 0) x (get_or pages j 0) ≡ get_or (set (map f pages) k x) j []
@@ -38,10 +38,5 @@ module _ (d e : Device) (placed : Placed) (number value page : ℕ) (stands : St
   pub frames-poked : ChangesOnly (frames_part placed.guest) 1 d e
   frames-poked =
       let label : d.label page ≡ Some (frame_label placed.guest) = ap d.label at ∙ stands.labelled (number / 512) frame in
-      let pokes : e.pokes ≡ counted d.pokes = ap (λ (x : Device). x.pokes) step in
-      record {
-        outside = ap (outside (frames_part placed.guest)) step
-            ∙ outside-poked (frames_part placed.guest) d page (ap (is_frame_of placed.guest) label ∙ own_frame placed.guest) (number % 512) value;
-        live = ap (λ (x : Device). x.live) step;
-        pokes = omega arith;
-      }
+      subst (ChangesOnly (frames_part placed.guest) 1 d) (sym step)
+      (poked-changes (frames_part placed.guest) d page (number % 512) value (ap (is_frame_of placed.guest) label ∙ own_frame placed.guest))

@@ -33,3 +33,8 @@ pub record Stands (d : Device) (placed : Placed) : Type 0 where
 -- a guest that has no frames yet
 abbrev pub nowhere : ℕ → Placed
 nowhere guest = record { guest = guest; pages = [] }
+
+-- The memory stands as before, with the same words.
+pub record KeepsMemory (placed : Placed) (before after : Device) : Type 0 where
+  pub stands : Stands after placed
+  pub memory : memory_in after placed ≡ memory_in before placed

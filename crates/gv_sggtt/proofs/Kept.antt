@@ -5,7 +5,8 @@ use Rattle.gv_entry.specs.Entry.{global_frame}
 use Rattle.gv_entry.specs.Global.{place_of, pages_of}
 use Rattle.gv_entry.specs.Ranges.{owns_page}
 use Rattle.gv_gpu.specs.Device.{Device, IsEmpty}
-use Rattle.gv_gpu.specs.Part.{Part, inside, outside}
+use Rattle.gv_gpu.specs.Change.{Leaves}
+use Rattle.gv_gpu.specs.Part.{Part, outside}
 use Rattle.gv_gpu.proofs.Seen.{global-same}
 use Rattle.gv_guest.specs.Placed.{Placed}
 use Rattle.gv_sggtt.specs.Table.{Table, table_grant, zero_table}
@@ -13,14 +14,14 @@ use Rattle.gv_sggtt.specs.Mirror.{NamesFrame, AreAbsent, Mirrors}
 use Rattle.gv_sggtt.proofs.Places.{entry-zero}
 use Rattle.gv_sggtt.proofs.Written.{grant-owned}
 
-module _ (w : Part) (d e : Device) (ranges : Ranges) (own : (page : ℕ) → owns_page ranges page ≡ true → w.entry page ≡ true) (same : inside w e ≡ inside w d) where
+module _ (w : Part) (d e : Device) (ranges : Ranges) (own : (page : ℕ) → owns_page ranges page ≡ true → w.entry page ≡ true) (left : Leaves w d e) where
   pub mirrors-kept : (entries : Table) (placed : Placed) → entries.ranges ≡ ranges → Mirrors d entries placed → Mirrors e entries placed
   mirrors-kept t placed is mirrors = record {
-    each = λ page mine. subst (NamesFrame placed (table_grant t page)) (sym (global-same w d e same page (own page (ap (λ r. owns_page r page) (sym is) ∙ mine)))) (mirrors.each page mine);
+    each = λ page mine. subst (NamesFrame placed (table_grant t page)) (sym (global-same w d e left.same page (own page (ap (λ r. owns_page r page) (sym is) ∙ mine)))) (mirrors.each page mine);
   }
 
   pub absent-kept : AreAbsent d ranges → AreAbsent e ranges
-  absent-kept absent = record { each = λ page mine. subst (NamesFrame (record { guest = 0; pages = [] }) None) (sym (global-same w d e same page (own page mine))) (absent.each page mine) }
+  absent-kept absent = record { each = λ page mine. subst (NamesFrame (record { guest = 0; pages = [] }) None) (sym (global-same w d e left.same page (own page mine))) (absent.each page mine) }
 
 -- a table whose entries are 0 grants nothing
 pub mirrors-zero : (d : Device) (ranges : Ranges) (frames : ℕ) (placed : Placed) → AreAbsent d ranges → Mirrors d (zero_table ranges frames) placed

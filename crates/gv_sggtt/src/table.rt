@@ -2,8 +2,9 @@ ghost use Rattle.std.specs.Prelude.{◌≡◌, ℕ, ◌+◌, ◌*◌, ◌<◌, �
 ghost use Rattle.std.specs.Option.{option_map_or};
 ghost use Rattle.gv_entry.specs.Global.{pages_of, place_of};
 ghost use Rattle.gv_entry.specs.Ranges.{InParts, is_in, owns_page};
-ghost use Rattle.gv_gpu.specs.Part.{outside, entries_part};
-ghost use Rattle.gv_guest.specs.Placed.{Stands, memory_in};
+ghost use Rattle.gv_gpu.specs.Change.{ChangesOnly};
+ghost use Rattle.gv_gpu.specs.Part.{entries_part};
+ghost use Rattle.gv_guest.specs.Placed.{Stands, KeepsMemory};
 ghost use Rattle.gv_sggtt.specs.Table.{zero_table, table_entry, table_written, table_grant};
 ghost use Rattle.gv_sggtt.specs.Mirror.{Mirrors, NamesFrame};
 
@@ -141,11 +142,8 @@ impl GlobalTable {
         requires mirrors { Mirrors (G.state gpu.old) self.old memory.now }
         ensures table { self.new ≡ table_written self.old page value }
         ensures mirrors { Mirrors (G.state gpu.new) self.new memory.now }
-        ensures stands { Stands (G.state gpu.new) memory.now }
-        ensures memory { memory_in (G.state gpu.new) memory.now ≡ memory_in (G.state gpu.old) memory.now }
-        ensures outside { outside (entries_part self.old.ranges) (G.state gpu.new) ≡ outside (entries_part self.old.ranges) (G.state gpu.old) }
-        ensures live { (G.state gpu.new).live ≡ (G.state gpu.old).live }
-        ensures pokes { (G.state gpu.new).pokes ≡ (G.state gpu.old).pokes }
+        ensures memory { KeepsMemory memory.now (G.state gpu.old) (G.state gpu.new) }
+        ensures changes { ChangesOnly (entries_part self.old.ranges) 0 (G.state gpu.old) (G.state gpu.new) }
     {
         let Some(place) = place_of(&self.ranges, page) else {
             return;
@@ -161,11 +159,8 @@ impl GlobalTable {
         requires mirrors { Mirrors (G.state gpu.old) self.old memory.now }
         ensures table { self.new ≡ zero_table self.old.ranges self.old.frames }
         ensures mirrors { Mirrors (G.state gpu.new) self.new memory.now }
-        ensures stands { Stands (G.state gpu.new) memory.now }
-        ensures memory { memory_in (G.state gpu.new) memory.now ≡ memory_in (G.state gpu.old) memory.now }
-        ensures outside { outside (entries_part self.old.ranges) (G.state gpu.new) ≡ outside (entries_part self.old.ranges) (G.state gpu.old) }
-        ensures live { (G.state gpu.new).live ≡ (G.state gpu.old).live }
-        ensures pokes { (G.state gpu.new).pokes ≡ (G.state gpu.old).pokes }
+        ensures memory { KeepsMemory memory.now (G.state gpu.old) (G.state gpu.new) }
+        ensures changes { ChangesOnly (entries_part self.old.ranges) 0 (G.state gpu.old) (G.state gpu.new) }
     {
         while let Some(place) = self.entries.take_written() {
             gpu.set_global(page_at(&self.ranges, place), ABSENT);

@@ -3,9 +3,10 @@ use Rattle.std.proofs.lemmas.List.{length-set}
 use Rattle.gv_types.specs.declared.ranges.Ranges.{Ranges}
 use Rattle.gv_entry.specs.Global.{with_entry_at, pages_of}
 use Rattle.gv_gpu.specs.Device.{Device, with_global}
-use Rattle.gv_gpu.specs.Part.{outside, entries_part}
-use Rattle.gv_gpu.proofs.Changed.{outside-global}
-use Rattle.gv_guest.proofs.Kept.{stands-entries, memory-entries}
+use Rattle.gv_gpu.specs.Change.{ChangesOnly}
+use Rattle.gv_gpu.specs.Part.{entries_part}
+use Rattle.gv_gpu.proofs.Changes.{changes-then, global-changes}
+use Rattle.gv_guest.proofs.Kept.{memory-entries}
 use Rattle.gv_sggtt.specs.Table.{Table}
 use Rattle.gv_sggtt.specs.Mirror.{Mirrors}
 use Rattle.gv_sggtt.proofs.Written.{some-live, mirrors-written}
@@ -15,7 +16,7 @@ pub set_global-requires-clause-live : goal.set_global-requires-clause-live
 set_global-requires-clause-live g c =
     let kept = c.loop-place.invariant in
     let frames : length c.args.memory.now.pages ≡ c.loop-place.self-inside.frames = c.requires.frames ∙ sym kept.frames in
-    some-live (g.G.Gpu.state c.loop-place.gpu) c.args.memory.now kept.stands (subst (λ n. 1 ≤ n) (sym frames) kept.is.some)
+    some-live (g.G.Gpu.state c.loop-place.gpu) c.args.memory.now kept.memory.stands (subst (λ n. 1 ≤ n) (sym frames) kept.is.some)
 
 pub loop-place-preserved : goal.loop-place-preserved
 loop-place-preserved g c =
@@ -32,18 +33,15 @@ loop-place-preserved g c =
     let written = mirrors-written d table placed page place 0 0 kept.is c.page_at.ensures.place there refl kept.mirrors in
     let mirrors : Mirrors after (record table { entries = set table.entries place 0 }) placed =
     subst (λ (o : Option ℕ). Mirrors after (record table { entries = with_entry_at table.entries o 0 }) placed) c.page_at.ensures.place written in
-    let part = entries_part inside.ranges in
-    let outside_step : outside part after ≡ outside part d = outside-global part d page 0 c.page_at.ensures.owned in
+    let step = global-changes (entries_part inside.ranges) d page 0 c.page_at.ensures.owned in
+    let memory = memory-entries inside.ranges 0 d after placed step kept.memory.stands in
     let e_is = c.set_global.ensures in
     let long = ap length c.in-Some.ensures.values ∙ length-set table.entries place 0 in
     record {
       ranges = kept.ranges;
       frames = kept.frames;
       is = record { parts = kept.is.parts; some = kept.is.some; few = kept.is.few; whole = long ∙ kept.is.whole };
-      stands = rw e_is (stands-entries inside.ranges d after placed outside_step kept.stands);
-      memory = rw e_is (memory-entries inside.ranges d after placed outside_step kept.stands ∙ kept.memory);
+      memory = rw e_is (record { stands = memory.stands; memory = memory.memory ∙ kept.memory.memory });
       mirrors = rw e_is (subst (λ (entries : List ℕ). Mirrors after (record table { entries = entries }) placed) values mirrors);
-      outside = rw e_is (subst (λ (r : Ranges). outside (entries_part r) after ≡ outside (entries_part r) d) kept.ranges outside_step ∙ kept.outside);
-      live = ap (λ (x : Device). x.live) e_is ∙ kept.live;
-      pokes = ap (λ (x : Device). x.pokes) e_is ∙ kept.pokes;
+      changes = rw e_is (changes-then kept.changes (subst (λ (r : Ranges). ChangesOnly (entries_part r) 0 d after) kept.ranges step));
     }

@@ -1,6 +1,7 @@
 use Rattle.std.proofs.Common.{◌≡◌}
-use Rattle.gv_gpu.specs.Part.{outside, entries_part}
-use Rattle.gv_guest.specs.Placed.{Stands, memory_in}
+use Rattle.gv_gpu.specs.Change.{ChangesOnly}
+use Rattle.gv_gpu.specs.Part.{entries_part}
+use Rattle.gv_guest.specs.Placed.{KeepsMemory}
 use Rattle.gv_sggtt.specs.Table.{Table, IsTable}
 use Rattle.gv_sggtt.specs.Mirror.{Mirrors}
 use Rattle.gv_sggtt.proofs.table.GlobalTable.clear.Given as goal
@@ -10,18 +11,14 @@ abbrev pub invariant-loop-place : goal.invariant-loop-place
 invariant-loop-place g l =
     let now = g.G.Gpu.state l.gpu in
     let start = g.G.Gpu.state l.fn.gpu in
-    let part = entries_part l.fn.self.ranges in
     let table : Table = record { ranges = l.self-inside.ranges; frames = l.self-inside.frames; entries = l.self-inside.entries.values } in
     record {
       ranges : l.self-inside.ranges ≡ l.fn.self.ranges;
       frames : l.self-inside.frames ≡ l.fn.self.frames;
       is : IsTable table;
-      stands : Stands now l.memory;
-      memory : memory_in now l.memory ≡ memory_in start l.memory;
+      memory : KeepsMemory l.memory start now;
       mirrors : Mirrors now table l.memory;
-      outside : outside part now ≡ outside part start;
-      live : now.live ≡ start.live;
-      pokes : now.pokes ≡ start.pokes;
+      changes : ChangesOnly (entries_part l.fn.self.ranges) 0 start now;
     }
 
 abbrev pub decreases-loop-place : goal.decreases-loop-place

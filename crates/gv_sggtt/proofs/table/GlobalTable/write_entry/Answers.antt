@@ -3,8 +3,10 @@ use Rattle.gv_types.specs.declared.ranges.Ranges.{Ranges}
 use Rattle.gv_entry.specs.Global.{with_entry_at}
 use Rattle.gv_entry.specs.Ranges.{owns_page}
 use Rattle.gv_gpu.specs.Device.{Device, with_global}
-use Rattle.gv_gpu.specs.Part.{outside, entries_part}
-use Rattle.gv_gpu.proofs.Changed.{outside-global}
+use Rattle.gv_gpu.specs.Change.{ChangesOnly}
+use Rattle.gv_gpu.specs.Part.{entries_part}
+use Rattle.gv_gpu.proofs.Changes.{global-changes}
+use Rattle.gv_guest.proofs.Kept.{memory-entries}
 use Rattle.gv_sggtt.specs.Table.{Table}
 use Rattle.gv_sggtt.specs.Mirror.{NamesFrame, Mirrors}
 use Rattle.gv_sggtt.proofs.Written.{some-live, mirrors-written}
@@ -30,9 +32,13 @@ returns-clause-mirrors g c =
     subst (λ (e : Device). Mirrors e (record table { entries = c.set.new.self.values }) placed) (sym c.set_global.ensures)
     (subst (λ (entries : List ℕ). Mirrors after (record table { entries = entries }) placed) (sym c.set.ensures) placed_at)
 
-pub returns-clause-outside : goal.returns-clause-outside
-returns-clause-outside g c =
+pub returns-clause-changes : goal.returns-clause-changes
+returns-clause-changes g c =
     let d = g.G.Gpu.state c.args.gpu.now in
     let part = entries_part c.args.self.now.ranges in
     let own : owns_page c.args.self.now.ranges c.args.page ≡ true = ap (λ (r : Ranges). owns_page r c.args.page) (ap (λ (t : Table). t.ranges) (sym c.self.view_is)) ∙ c.in-Some.ensures.owned in
-    ap (outside part) c.set_global.ensures ∙ outside-global part d c.args.page c.physical.result own
+    subst (ChangesOnly part 0 d) (sym c.set_global.ensures) (global-changes part d c.args.page c.physical.result own)
+
+pub returns-clause-memory : goal.returns-clause-memory
+returns-clause-memory g c =
+    memory-entries c.args.self.now.ranges 0 (g.G.Gpu.state c.args.gpu.now) (g.G.Gpu.state c.set_global.new.self) c.args.memory.now (returns-clause-changes g c) c.requires.stands
