@@ -43,3 +43,17 @@ hidden false x y none is h = h
 -- An entry that isn't in the part that changed is as before.
 pub global-others : (p : Part) (d e : Device) (i : ℕ) → p.entry i ≡ false → outside p e ≡ outside p d → e.global i ≡ d.global i
 global-others p d e i other same = hidden (p.entry i) (e.global i) (d.global i) 0 other (ap (λ (x : Device). x.global i) same)
+
+-- An engine that isn't in the part that changed is as before.
+module _ (p : Part) (d e : Device) (k : ℕ) (other : p.engine k ≡ false) (same : outside p e ≡ outside p d) where
+  pub general-others : e.general k ≡ d.general k
+  general-others = hidden (p.engine k) (e.general k) (d.general k) (λ _. 0) other (ap (λ (x : Device). x.general k) same)
+
+  pub loaded-others : e.loaded k ≡ d.loaded k
+  loaded-others = hidden (p.engine k) (e.loaded k) (d.loaded k) None other (ap (λ (x : Device). x.loaded k) same)
+
+-- A page that isn't in the part that changed, before or after, keeps its label.
+pub label-others : (p : Part) (d e : Device) (n : ℕ) → p.page n (d.label n) ≡ false → p.page n (e.label n) ≡ false → outside p e ≡ outside p d → e.label n ≡ d.label n
+label-others p d e n before after same =
+    let shown_label : cond (p.page n (e.label n)) None (e.label n) ≡ cond (p.page n (d.label n)) None (d.label n) = ap (λ (x : Device). x.label n) same in
+    rw (before, after) at shown_label

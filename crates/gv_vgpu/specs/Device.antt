@@ -22,6 +22,11 @@ pub record PrivateDevice : Type 0 where
   pub entries : List ℕ  -- of the low range, then of the high one
   pub registers : ℕ → ℕ  -- by offset
   pub interrupts : InterruptRegisters
+  pub general : ℕ → ℕ → ℕ  -- sixteen registers of 64 bits for each engine, by their numbers
+
+-- the general registers of an engine after a reset
+abbrev pub zero_registers : ℕ → ℕ
+zero_registers n = 0
 
 -- Memory of zeros; every register has its reset value, and every global entry is 0.
 abbrev pub new_device : ℕ → ℕ → Ranges → PrivateDevice
@@ -32,11 +37,12 @@ new_device number frames ranges = record {
   entries = zero_entries ranges;
   registers = reset_registers;
   interrupts = reset_irq;
+  general = λ _. zero_registers;
 }
 
 -- A function reset: all registers have their reset values and all global entries are 0. Memory stays.
 abbrev pub function_reset : PrivateDevice → PrivateDevice
-function_reset p = record p { entries = zero_entries p.ranges; registers = reset_registers; interrupts = reset_irq }
+function_reset p = record p { entries = zero_entries p.ranges; registers = reset_registers; interrupts = reset_irq; general = λ _. zero_registers }
 
 -- ---- the aperture
 
@@ -105,7 +111,10 @@ one_engine_reset value engine registers = if resets value engine then engine_res
 
 -- Engine reset: the registers of each engine that the value names have their reset values.
 abbrev pub engines_reset : PrivateDevice → ℕ → PrivateDevice
-engines_reset p value = record p { registers = one_engine_reset value 1 (one_engine_reset value 0 p.registers) }
+engines_reset p value = record p {
+  registers = one_engine_reset value 1 (one_engine_reset value 0 p.registers);
+  general = λ e. if resets value e then zero_registers else p.general e;
+}
 
 abbrev pub dword_written_by : Target → PrivateDevice → ℕ → ℕ → Written
 dword_written_by Interrupts p offset value = record { device = record p { interrupts = irq_written p.interrupts offset value }; injected = injects_written p.interrupts offset value }

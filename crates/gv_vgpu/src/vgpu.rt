@@ -1,14 +1,15 @@
-ghost use Rattle.std.specs.Prelude.{◌≡◌, ℕ, ◌+◌, ◌*◌, ◌/◌, ◌%◌, ◌^◌, ◌<◌, ◌≤◌, length, IfOk, OnOk, IsOk, Ok, None, List, Bool, if◌then◌else◌};
+ghost use Rattle.std.specs.Prelude.{◌≡◌, ℕ, ◌+◌, ◌*◌, ◌/◌, ◌%◌, ◌^◌, ◌<◌, ◌≤◌, length, IfOk, OnOk, IsOk, Ok, None, Bool, if◌then◌else◌};
 ghost use Rattle.gv_types.specs.Memory.{bytes_of, all_ones, memory_read, memory_write};
 ghost use Rattle.gv_entry.specs.Ranges.{InParts, is_in};
-ghost use Rattle.gv_gpu.specs.Device.{Device, counted};
-ghost use Rattle.gv_gpu.specs.Part.{outside, frames_part, entries_part, guest_part};
+ghost use Rattle.gv_gpu.specs.Change.{ChangesOnly};
+ghost use Rattle.gv_gpu.specs.Device.{Device};
+ghost use Rattle.gv_gpu.specs.Part.{outside, frames_part, entries_part, access_part};
 ghost use Rattle.gv_guest.specs.Placed.{Stands, nowhere};
 ghost use Rattle.gv_sggtt.specs.Mirror.{AreAbsent};
 ghost use Rattle.gv_sggtt.specs.Table.{table_grant};
 ghost use Rattle.gv_vgpu.specs.Access.{IsAccess, end_of};
 ghost use Rattle.gv_vgpu.specs.Device.{new_device, function_reset, aperture_frame, aperture_read, aperture_written, table_at, table_read, table_written, dword_read, dword_written, dwords_read, dwords_written, one_engine_reset, engines_reset, range_read, range_written};
-ghost use Rattle.gv_vgpu.specs.Step.{guest_of, value_read, value_written, device_after, reply_of, irq_where};
+ghost use Rattle.gv_vgpu.specs.Step.{guest_of, value_read, value_written, answer, irq_where};
 
 use gv_gpu::{Gpu, GpuFailed, half, with_half};
 use gv_guest::Memory;
@@ -35,10 +36,11 @@ pub struct Vgpu {
 }
 
 impl Vgpu {
-    ghost use Rattle.gv_vgpu.specs.Holds.{Holds, private_of, number_of, ranges_of, memory_of, own_part, SameGuest, KeepsTables};
+    ghost use Rattle.gv_vgpu.specs.Holds.{HoldsTables, Holds, AreIdle, private_of, idle_device, number_of, ranges_of, memory_of, is_here, part_of, SameGuest, KeepsGuest, KeepsTables};
 
     /// A guest's device as after a reset, with so many zero frames, 1 to 16,384, and these ranges, whose
-    /// physical entries are absent. The guest has no page in the device yet.
+    /// physical entries are absent. The guest has no page in the device yet, and the engines that it will own
+    /// are idle.
     pub fn new<G: Gpu>(
         alloc: Global,
         gpu: &mut G,
@@ -52,8 +54,8 @@ impl Vgpu {
         requires room { (G.state gpu.old).live + frames ≤ 131072 }
         requires none { Stands (G.state gpu.old) (nowhere guest.0) }
         requires absent { AreAbsent (G.state gpu.old) ranges }
-        ensures holds { IfOk result (λ v. Holds (G.state gpu.new) v) }
-        ensures device { IfOk result (λ v. private_of (G.state gpu.new) v ≡ new_device guest.0 frames ranges) }
+        ensures holds { IfOk result (λ v. (here : ℕ → Bool) → AreIdle (G.state gpu.old) here → Holds (G.state gpu.new) v here) }
+        ensures device { IfOk result (λ v. (here : ℕ → Bool) → AreIdle (G.state gpu.old) here → private_of (G.state gpu.new) v here ≡ new_device guest.0 frames ranges) }
         ensures live { OnOk result ((G.state gpu.new).live ≡ (G.state gpu.old).live + frames) }
         ensures outside { outside (frames_part guest.0) (G.state gpu.new) ≡ outside (frames_part guest.0) (G.state gpu.old) }
     {
@@ -88,10 +90,10 @@ impl Vgpu {
     }
 
     fn read_aperture<G: Gpu>(&self, gpu: &G, width: Width, at: u64) -> u64
-        requires holds { Holds (G.state gpu.now) self.now }
+        requires holds { HoldsTables (G.state gpu.now) self.now }
         requires aligned { at % bytes_of width ≡ 0 }
         requires below { at < 2 ^ 32 }
-        ensures { result ≡ aperture_read (private_of (G.state gpu.now) self.now) width at }
+        ensures { result ≡ aperture_read (idle_device (G.state gpu.now) self.now) width at }
     {
         match self.aperture_frame((at / 4096) as u32) {
             Some(frame) => self
@@ -102,15 +104,13 @@ impl Vgpu {
     }
 
     fn write_aperture<G: Gpu>(&self, gpu: &mut G, width: Width, at: u64, value: u64)
-        requires holds { Holds (G.state gpu.old) self.now }
+        requires holds { HoldsTables (G.state gpu.old) self.now }
         requires aligned { at % bytes_of width ≡ 0 }
         requires below { at < 2 ^ 32 }
         requires fits { value ≤ all_ones width }
-        ensures device { private_of (G.state gpu.new) self.now ≡ aperture_written (private_of (G.state gpu.old) self.now) width at value }
-        ensures holds { Holds (G.state gpu.new) self.now }
-        ensures outside { outside (frames_part (number_of self.now)) (G.state gpu.new) ≡ outside (frames_part (number_of self.now)) (G.state gpu.old) }
-        ensures live { (G.state gpu.new).live ≡ (G.state gpu.old).live }
-        ensures pokes { (G.state gpu.new).pokes ≤ counted (G.state gpu.old).pokes }
+        ensures device { idle_device (G.state gpu.new) self.now ≡ aperture_written (idle_device (G.state gpu.old) self.now) width at value }
+        ensures holds { HoldsTables (G.state gpu.new) self.now }
+        ensures changes { ChangesOnly (frames_part (number_of self.now)) 1 (G.state gpu.old) (G.state gpu.new) }
     {
         if let Some(frame) = self.aperture_frame((at / 4096) as u32) {
             self.memory
@@ -119,15 +119,13 @@ impl Vgpu {
     }
 
     fn write_memory<G: Gpu>(&self, gpu: &mut G, width: Width, at: u64, value: u64)
-        requires holds { Holds (G.state gpu.old) self.now }
+        requires holds { HoldsTables (G.state gpu.old) self.now }
         requires aligned { at % bytes_of width ≡ 0 }
         requires fits { value ≤ all_ones width }
-        ensures device { private_of (G.state gpu.new) self.now
-            ≡ record (private_of (G.state gpu.old) self.now) { memory = memory_write (private_of (G.state gpu.old) self.now).memory width at value } }
-        ensures holds { Holds (G.state gpu.new) self.now }
-        ensures outside { outside (frames_part (number_of self.now)) (G.state gpu.new) ≡ outside (frames_part (number_of self.now)) (G.state gpu.old) }
-        ensures live { (G.state gpu.new).live ≡ (G.state gpu.old).live }
-        ensures pokes { (G.state gpu.new).pokes ≤ counted (G.state gpu.old).pokes }
+        ensures device { idle_device (G.state gpu.new) self.now
+            ≡ record (idle_device (G.state gpu.old) self.now) { memory = memory_write (idle_device (G.state gpu.old) self.now).memory width at value } }
+        ensures holds { HoldsTables (G.state gpu.new) self.now }
+        ensures changes { ChangesOnly (frames_part (number_of self.now)) 1 (G.state gpu.old) (G.state gpu.new) }
     {
         self.memory.write(gpu, at, width, value)
     }
@@ -136,7 +134,7 @@ impl Vgpu {
     fn read_table(&self, width: Width, offset: u64) -> u64
         requires from { table_at ≤ offset }
         requires below { offset < 0x1000000 }
-        ensures { (d : Device) → result ≡ table_read (private_of d self.now) width offset }
+        ensures { (d : Device) → result ≡ table_read (idle_device d self.now) width offset }
     {
         let entry = self.table.entry(((offset - TABLE_AT) / 8) as u32);
         match width {
@@ -146,16 +144,14 @@ impl Vgpu {
     }
 
     fn write_table<G: Gpu>(&mut self, gpu: &mut G, width: Width, offset: u64, value: u64)
-        requires holds { Holds (G.state gpu.old) self.old }
+        requires holds { HoldsTables (G.state gpu.old) self.old }
         requires from { table_at ≤ offset }
         requires below { offset < 0x1000000 }
         requires fits { value ≤ all_ones width }
-        ensures device { private_of (G.state gpu.new) self.new ≡ table_written (private_of (G.state gpu.old) self.old) width offset value }
-        ensures holds { Holds (G.state gpu.new) self.new }
+        ensures device { idle_device (G.state gpu.new) self.new ≡ table_written (idle_device (G.state gpu.old) self.old) width offset value }
+        ensures holds { HoldsTables (G.state gpu.new) self.new }
         ensures guest { SameGuest self.old self.new }
-        ensures outside { outside (entries_part (ranges_of self.old)) (G.state gpu.new) ≡ outside (entries_part (ranges_of self.old)) (G.state gpu.old) }
-        ensures live { (G.state gpu.new).live ≡ (G.state gpu.old).live }
-        ensures pokes { (G.state gpu.new).pokes ≤ counted (G.state gpu.old).pokes }
+        ensures changes { ChangesOnly (entries_part (ranges_of self.old)) 0 (G.state gpu.old) (G.state gpu.new) }
     {
         let page = ((offset - TABLE_AT) / 8) as u32;
         let entry = match width {
@@ -168,7 +164,7 @@ impl Vgpu {
     fn read_dword(&self, offset: u32) -> u32
         requires number { self.now.registers.guest ≡ self.now.memory.guest }
         requires ranges { self.now.registers.ranges ≡ self.now.table.ranges }
-        ensures { (d : Device) → result ≡ dword_read (private_of d self.now) offset }
+        ensures { (d : Device) → result ≡ dword_read (idle_device d self.now) offset }
     {
         match target(offset) {
             Target::Interrupts => self.interrupts.read(offset),
@@ -178,8 +174,8 @@ impl Vgpu {
 
     // Resets the registers of the engine, where the value names it.
     fn reset_if_named(&mut self, value: u32, engine: EngineId)
-        ensures device { (d : Device) → private_of d self.new
-            ≡ record (private_of d self.old) { registers = one_engine_reset value engine.0 (private_of d self.old).registers } }
+        ensures device { (d : Device) → idle_device d self.new
+            ≡ record (idle_device d self.old) { registers = one_engine_reset value engine.0 (idle_device d self.old).registers } }
         ensures kept { KeepsTables self.old self.new }
     {
         if resets(value, engine) {
@@ -189,7 +185,7 @@ impl Vgpu {
 
     // Resets the registers of each engine that the value names.
     fn reset_engines(&mut self, value: u32)
-        ensures device { (d : Device) → private_of d self.new ≡ engines_reset (private_of d self.old) value }
+        ensures device { (d : Device) → idle_device d self.new ≡ engines_reset (idle_device d self.old) value }
         ensures kept { KeepsTables self.old self.new }
     {
         self.reset_if_named(value, EngineId(0));
@@ -198,8 +194,8 @@ impl Vgpu {
 
     // Writes a dword of the registers. Answers whether an interrupt is injected.
     fn write_dword(&mut self, offset: u32, value: u32) -> bool
-        ensures injected { (d : Device) → result ≡ (dword_written (private_of d self.old) offset value).injected }
-        ensures device { (d : Device) → private_of d self.new ≡ (dword_written (private_of d self.old) offset value).device }
+        ensures injected { (d : Device) → result ≡ (dword_written (idle_device d self.old) offset value).injected }
+        ensures device { (d : Device) → idle_device d self.new ≡ (dword_written (idle_device d self.old) offset value).device }
         ensures kept { KeepsTables self.old self.new }
     {
         match target(offset) {
@@ -220,7 +216,7 @@ impl Vgpu {
         requires number { self.now.registers.guest ≡ self.now.memory.guest }
         requires ranges { self.now.registers.ranges ≡ self.now.table.ranges }
         requires below { offset < table_at }
-        ensures { (d : Device) → result ≡ dwords_read (private_of d self.now) width offset }
+        ensures { (d : Device) → result ≡ dwords_read (idle_device d self.now) width offset }
     {
         let low = u64::from(self.read_dword(offset));
         match width {
@@ -233,8 +229,8 @@ impl Vgpu {
     fn write_dwords(&mut self, width: Width, offset: u32, value: u64) -> bool
         requires below { offset < table_at }
         requires fits { value ≤ all_ones width }
-        ensures injected { (d : Device) → result ≡ (dwords_written (private_of d self.old) width offset value).injected }
-        ensures device { (d : Device) → private_of d self.new ≡ (dwords_written (private_of d self.old) width offset value).device }
+        ensures injected { (d : Device) → result ≡ (dwords_written (idle_device d self.old) width offset value).injected }
+        ensures device { (d : Device) → idle_device d self.new ≡ (dwords_written (idle_device d self.old) width offset value).device }
         ensures kept { KeepsTables self.old self.new }
     {
         match width {
@@ -252,7 +248,7 @@ impl Vgpu {
         requires number { self.now.registers.guest ≡ self.now.memory.guest }
         requires ranges { self.now.registers.ranges ≡ self.now.table.ranges }
         requires below { offset < 0x1000000 }
-        ensures { (d : Device) → result ≡ range_read (private_of d self.now) width offset }
+        ensures { (d : Device) → result ≡ range_read (idle_device d self.now) width offset }
     {
         if offset < TABLE_AT {
             self.read_dwords(width, offset as u32)
@@ -263,16 +259,14 @@ impl Vgpu {
 
     // A write of the register range. Answers whether an interrupt is injected.
     fn write_range<G: Gpu>(&mut self, gpu: &mut G, width: Width, offset: u64, value: u64) -> bool
-        requires holds { Holds (G.state gpu.old) self.old }
+        requires holds { HoldsTables (G.state gpu.old) self.old }
         requires below { offset < 0x1000000 }
         requires fits { value ≤ all_ones width }
-        ensures injected { result ≡ (range_written (private_of (G.state gpu.old) self.old) width offset value).injected }
-        ensures device { private_of (G.state gpu.new) self.new ≡ (range_written (private_of (G.state gpu.old) self.old) width offset value).device }
-        ensures holds { Holds (G.state gpu.new) self.new }
+        ensures injected { result ≡ (range_written (idle_device (G.state gpu.old) self.old) width offset value).injected }
+        ensures device { idle_device (G.state gpu.new) self.new ≡ (range_written (idle_device (G.state gpu.old) self.old) width offset value).device }
+        ensures holds { HoldsTables (G.state gpu.new) self.new }
         ensures guest { SameGuest self.old self.new }
-        ensures outside { outside (entries_part (ranges_of self.old)) (G.state gpu.new) ≡ outside (entries_part (ranges_of self.old)) (G.state gpu.old) }
-        ensures live { (G.state gpu.new).live ≡ (G.state gpu.old).live }
-        ensures pokes { (G.state gpu.new).pokes ≤ counted (G.state gpu.old).pokes }
+        ensures changes { ChangesOnly (entries_part (ranges_of self.old)) 0 (G.state gpu.old) (G.state gpu.new) }
     {
         if offset < TABLE_AT {
             return self.write_dwords(width, offset as u32, value);
@@ -282,10 +276,10 @@ impl Vgpu {
     }
 
     fn read<G: Gpu>(&self, gpu: &G, place: Place, width: Width, at: u64) -> u64
-        requires holds { Holds (G.state gpu.now) self.now }
+        requires holds { HoldsTables (G.state gpu.now) self.now }
         requires aligned { at % bytes_of width ≡ 0 }
         requires below { at < end_of place }
-        ensures { result ≡ value_read (private_of (G.state gpu.now) self.now) place width at }
+        ensures { result ≡ value_read (idle_device (G.state gpu.now) self.now) place width at }
     {
         match place {
             Place::Memory => self.memory.read(gpu, at, width),
@@ -303,17 +297,15 @@ impl Vgpu {
         at: u64,
         value: u64,
     ) -> bool
-        requires holds { Holds (G.state gpu.old) self.old }
+        requires holds { HoldsTables (G.state gpu.old) self.old }
         requires aligned { at % bytes_of width ≡ 0 }
         requires below { at < end_of place }
         requires fits { value ≤ all_ones width }
-        ensures injected { result ≡ (value_written (private_of (G.state gpu.old) self.old) place width at value).injected }
-        ensures device { private_of (G.state gpu.new) self.new ≡ (value_written (private_of (G.state gpu.old) self.old) place width at value).device }
-        ensures holds { Holds (G.state gpu.new) self.new }
+        ensures injected { result ≡ (value_written (idle_device (G.state gpu.old) self.old) place width at value).injected }
+        ensures device { idle_device (G.state gpu.new) self.new ≡ (value_written (idle_device (G.state gpu.old) self.old) place width at value).device }
+        ensures holds { HoldsTables (G.state gpu.new) self.new }
         ensures guest { SameGuest self.old self.new }
-        ensures outside { (here : List Bool) → outside (own_part self.old here) (G.state gpu.new) ≡ outside (own_part self.old here) (G.state gpu.old) }
-        ensures live { (G.state gpu.new).live ≡ (G.state gpu.old).live }
-        ensures pokes { (G.state gpu.new).pokes ≤ counted (G.state gpu.old).pokes }
+        ensures changes { ChangesOnly (part_of self.old) 1 (G.state gpu.old) (G.state gpu.new) }
     {
         match place {
             Place::Memory => {
@@ -347,16 +339,12 @@ impl Vgpu {
         here: [bool; 4],
         event: &Event,
     ) -> Result<Reply, Stop>
-        requires holds { Holds (G.state gpu.old) self.old }
+        requires holds { Holds (G.state gpu.old) self.old (is_here here) }
         requires own { (guest_of event.now).0 ≡ number_of self.old }
         requires access { IsAccess event.now }
-        ensures reply { result ≡ Ok (reply_of (private_of (G.state gpu.old) self.old) event.now) }
-        ensures device { private_of (G.state gpu.new) self.new ≡ device_after (private_of (G.state gpu.old) self.old) event.now }
-        ensures holds { Holds (G.state gpu.new) self.new }
-        ensures guest { SameGuest self.old self.new }
-        ensures outside { outside (own_part self.old here) (G.state gpu.new) ≡ outside (own_part self.old here) (G.state gpu.old) }
-        ensures live { (G.state gpu.new).live ≡ (G.state gpu.old).live }
-        ensures pokes { (G.state gpu.new).pokes ≤ counted (G.state gpu.old).pokes }
+        ensures reply { result ≡ Ok (answer (private_of (G.state gpu.old) self.old (is_here here)) event.now).reply }
+        ensures device { private_of (G.state gpu.new) self.new (is_here here) ≡ (answer (private_of (G.state gpu.old) self.old (is_here here)) event.now).left }
+        ensures keeps { KeepsGuest (part_of self.old) 1 (is_here here) (G.state gpu.old) (G.state gpu.new) self.old self.new }
     {
         match event {
             Event::Read {
@@ -389,21 +377,28 @@ impl Vgpu {
         }
     }
 
-    /// A function reset: every register and every entry of the global table has its reset value.
-    /// Memory stays. No reset fails yet.
-    pub fn reset<G: Gpu>(&mut self, gpu: &mut G, here: [bool; 4]) -> Result<(), GpuFailed>
-        requires holds { Holds (G.state gpu.old) self.old }
-        ensures ok { IsOk result }
-        ensures device { private_of (G.state gpu.new) self.new ≡ function_reset (private_of (G.state gpu.old) self.old) }
-        ensures holds { Holds (G.state gpu.new) self.new }
+    // Every register and every entry of the global table gets its reset value.
+    fn clear<G: Gpu>(&mut self, gpu: &mut G)
+        requires holds { HoldsTables (G.state gpu.old) self.old }
+        ensures device { idle_device (G.state gpu.new) self.new ≡ function_reset (idle_device (G.state gpu.old) self.old) }
+        ensures holds { HoldsTables (G.state gpu.new) self.new }
         ensures guest { SameGuest self.old self.new }
-        ensures outside { outside (own_part self.old here) (G.state gpu.new) ≡ outside (own_part self.old here) (G.state gpu.old) }
-        ensures live { (G.state gpu.new).live ≡ (G.state gpu.old).live }
-        ensures pokes { (G.state gpu.new).pokes ≡ (G.state gpu.old).pokes }
+        ensures changes { ChangesOnly (entries_part (ranges_of self.old)) 0 (G.state gpu.old) (G.state gpu.new) }
     {
         self.table.clear(gpu, &self.memory);
         self.registers.reset();
         self.interrupts.reset();
+    }
+
+    /// A function reset: every register and every entry of the global table has its reset value.
+    /// Memory stays. No reset fails yet.
+    pub fn reset<G: Gpu>(&mut self, gpu: &mut G, here: [bool; 4]) -> Result<(), GpuFailed>
+        requires holds { Holds (G.state gpu.old) self.old (is_here here) }
+        ensures ok { IsOk result }
+        ensures device { private_of (G.state gpu.new) self.new (is_here here) ≡ function_reset (private_of (G.state gpu.old) self.old (is_here here)) }
+        ensures keeps { KeepsGuest (part_of self.old) 0 (is_here here) (G.state gpu.old) (G.state gpu.new) self.old self.new }
+    {
+        self.clear(gpu);
         Ok(())
     }
 }
