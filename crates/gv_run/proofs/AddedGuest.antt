@@ -13,15 +13,15 @@ use Rattle.gv_balloon.specs.Shares.{AreAmong, AreApart, fits, next_ranges, given
 use Rattle.gv_balloon.specs.declared.given.Given.{Given}
 use Rattle.gv_balloon.proofs.Consecutive.{among-apart, apart-among, among-after}
 use Rattle.gv_gpu.specs.Device.{Device}
-use Rattle.gv_gpu.specs.Part.{outside, frames_part, guest_part}
-use Rattle.gv_gpu.proofs.Guests.{frames-within}
+use Rattle.gv_gpu.specs.Part.{outside, frames_part, access_part}
+use Rattle.gv_gpu.proofs.Guests.{frames-access}
 use Rattle.gv_gpu.proofs.Parts.{outside-widen}
 use Rattle.gv_vgpu.specs.Device.{PrivateDevice}
 use Rattle.gv_vgpu.specs.Holds.{Holds, private_of, number_of, ranges_of}
 use Rattle.gv_vgpu.specs.declared.vgpu.Vgpu.{Vgpu}
 use Rattle.gv_run.specs.Machine.{given_to, no_ranges}
 use Rattle.gv_run.specs.Tied.{Ties, AreAllApart, machine_in, all_ranges}
-use Rattle.gv_run.proofs.OneGuest.{holds-others, device-others, stands-further, absent-others, ranges-there}
+use Rattle.gv_run.proofs.OneGuest.{AreFrames, device_in, holds-others, device-others, idle-others, frames-others, absent-others, ranges-there}
 
 -- a list with one more element
 module _ {X : Type 0} (xs : List X) (x : X) where
@@ -83,14 +83,11 @@ given_to-push all given want is =
 pub among-push : (all : List Ranges) (given : Given) (want : Want) → All (AreAmong given) all → AreAmong (given_after given want) (next_ranges given want) → All (AreAmong (given_after given want)) (all ++ next_ranges given want ∷ [])
 among-push all given want among next = All-push (AreAmong (given_after given want)) all (next_ranges given want) (λ k d h. among-after given want (get_or all k d) (among k d h)) next
 
-module _ (d e : Device) (guests : List Vgpu) (v : Vgpu) (given : Given) (want : Want) (ties : Ties d guests) (among : All (AreAmong given) (all_ranges guests)) (fit : fits given want ≡ true) (last : number_of v ≡ length guests) (own : ranges_of v ≡ next_ranges given want) (holds : Holds e v) (same : outside (frames_part (number_of v)) e ≡ outside (frames_part (number_of v)) d) where
-  abbrev nobody : ℕ → Bool
-  nobody engine = false
-
-  widened : outside (guest_part (number_of v) (ranges_of v) nobody) e ≡ outside (guest_part (number_of v) (ranges_of v) nobody) d
-  widened =
-      let within = frames-within (number_of v) (ranges_of v) nobody in
-      outside-widen (frames_part (number_of v)) (frames_part (number_of v)) (guest_part (number_of v) (ranges_of v) nobody) d e within within same
+module _ (d e : Device) (own : ℕ → ℕ → Bool) (guests : List Vgpu) (v : Vgpu) (given : Given) (want : Want) (ties : Ties d own guests) (among : All (AreAmong given) (all_ranges guests)) (fit : fits given want ≡ true) (last : number_of v ≡ length guests) (next : ranges_of v ≡ next_ranges given want) (holds : Holds e v (own (number_of v))) (frames : outside (frames_part (number_of v)) e ≡ outside (frames_part (number_of v)) d) where
+  same : outside (access_part (number_of v) (ranges_of v)) e ≡ outside (access_part (number_of v) (ranges_of v)) d
+  same =
+      let within = frames-access (number_of v) (ranges_of v) in
+      outside-widen (frames_part (number_of v)) (frames_part (number_of v)) (access_part (number_of v) (ranges_of v)) d e within within frames
 
   among_at : (k : ℕ) → k < length (all_ranges guests) → AreAmong given (get_or (all_ranges guests) k no_ranges)
   among_at k h = among k no_ranges h
@@ -99,10 +96,10 @@ module _ (d e : Device) (guests : List Vgpu) (v : Vgpu) (given : Given) (want : 
   there k h = subst (λ n. k < n) (sym (length-map guests ranges_of)) h
 
   apart_from : (k : ℕ) → k < length (all_ranges guests) → AreApart (ranges_of v) (get_or (all_ranges guests) k no_ranges)
-  apart_from k h = subst (λ r. AreApart r (get_or (all_ranges guests) k no_ranges)) (sym own) (apart-among given want (get_or (all_ranges guests) k no_ranges) (among_at k h) fit)
+  apart_from k h = subst (λ r. AreApart r (get_or (all_ranges guests) k no_ranges)) (sym next) (apart-among given want (get_or (all_ranges guests) k no_ranges) (among_at k h) fit)
 
   apart_to : (k : ℕ) → k < length (all_ranges guests) → AreApart (get_or (all_ranges guests) k no_ranges) (ranges_of v)
-  apart_to k h = subst (AreApart (get_or (all_ranges guests) k no_ranges)) (sym own) (among-apart given want (get_or (all_ranges guests) k no_ranges) (among_at k h) fit)
+  apart_to k h = subst (AreApart (get_or (all_ranges guests) k no_ranges)) (sym next) (among-apart given want (get_or (all_ranges guests) k no_ranges) (among_at k h) fit)
 
   apart_guest : (k : ℕ) (x : Vgpu) → k < length guests → get_or guests k x ≡ x → AreApart (ranges_of v) (ranges_of x)
   apart_guest k x h nat = subst (AreApart (ranges_of v)) (ranges-there guests k x h nat) (apart_from k (there k h))
@@ -119,43 +116,51 @@ module _ (d e : Device) (guests : List Vgpu) (v : Vgpu) (given : Given) (want : 
   pub all_ranges-push : all_ranges (guests ++ v ∷ []) ≡ all_ranges guests ++ ranges_of v ∷ []
   all_ranges-push = map_push ranges_of guests v
 
-  holds_other : (k : ℕ) (x : Vgpu) → k < length guests → get_or guests k x ≡ x → Holds e x
-  holds_other k x h nat = holds-others d e (number_of v) (ranges_of v) nobody widened x (other_number k x h nat) holds.parts (apart_guest k x h nat) (ties.holds k x h nat)
+  holds_other : (k : ℕ) (x : Vgpu) → k < length guests → get_or guests k x ≡ x → Holds e x (own k)
+  holds_other k x h nat = holds-others d e (number_of v) (ranges_of v) same x (own k) (other_number k x h nat) holds.tables.parts (apart_guest k x h nat) (ties.holds k x h nat)
 
-  pub ties-added : Ties e (guests ++ v ∷ [])
+  more : length (guests ++ v ∷ []) ≡ length guests + 1
+  more = longer guests v
+
+  still : AreFrames d (length (guests ++ v ∷ []))
+  still n l is = let old = ties.pages n l is in let k = more in let there : l.guest.0 < length guests = old.0 in (omega arith, old.1)
+
+  pub ties-added : Ties e own (guests ++ v ∷ [])
   ties-added = record {
     number = λ k x h nat. ⊎_elim
         (λ is. ap number_of (sym (is_last k x nat is)) ∙ last ∙ sym is)
         (λ differ. ties.number k x (earlier guests v k h differ) (old_at k x (earlier guests v k h differ) nat))
         (cases_eq k (length guests));
     holds = λ k x h nat. ⊎_elim
-        (λ is. subst (Holds e) (is_last k x nat is) holds)
+        (λ is. subst (λ i. Holds e x (own i)) (last ∙ sym is) (subst (λ x. Holds e x (own (number_of v))) (is_last k x nat is) holds))
         (λ differ. holds_other k x (earlier guests v k h differ) (old_at k x (earlier guests v k h differ) nat))
         (cases_eq k (length guests));
     apart = subst AreAllApart (sym all_ranges-push) (apart-push (all_ranges guests) (ranges_of v) ties.apart apart_from apart_to);
-    further = λ k h. stands-further d e (number_of v) (ranges_of v) nobody widened k (past k h) (ties.further k (let n = longer guests v in omega arith));
-    rest = λ page free before.
+    disjoint = ties.disjoint;
+    idle = idle-others d e (number_of v) (ranges_of v) same (λ _. true) ties.idle;
+    rest = λ page free.
         let all = subst (All (λ ranges. owns_page ranges page ≡ false)) all_ranges-push free in
-        absent-others d e (number_of v) (ranges_of v) nobody widened page (unowned page all) before (ties.rest page (front page all) before);
+        absent-others d e (number_of v) (ranges_of v) same page (unowned page all) (ties.rest page (front page all));
+    pages = frames-others d e (number_of v) (ranges_of v) same (length (guests ++ v ∷ [])) (let k = more in omega arith) still;
   }
     where
-      past : (k : ℕ) → length (guests ++ v ∷ []) ≤ k → k ≢ number_of v
-      past k h is = let n = longer guests v in omega arith
-
       unowned : (page : ℕ) → All (λ ranges. owns_page ranges page ≡ false) (all_ranges guests ++ ranges_of v ∷ []) → owns_page (ranges_of v) page ≡ false
       unowned page all = subst (λ r. owns_page r page ≡ false) (at_end (all_ranges guests) (ranges_of v) no_ranges) (all (length (all_ranges guests)) no_ranges (let n = longer (all_ranges guests) (ranges_of v) in omega arith))
 
       front : (page : ℕ) → All (λ ranges. owns_page ranges page ≡ false) (all_ranges guests ++ ranges_of v ∷ []) → All (λ ranges. owns_page ranges page ≡ false) (all_ranges guests)
       front page all k x h = subst (λ r. owns_page r page ≡ false) (at_front (all_ranges guests) (ranges_of v) k x h) (all k x (let n = longer (all_ranges guests) (ranges_of v) in omega arith))
 
-  kept_all : machine_in e guests ≡ machine_in d guests
+  kept_all : machine_in e own guests ≡ machine_in d own guests
   kept_all = same_lists _ _ (simp length-map refl) (λ k b h.
       let hk : k < length guests = rw length-map at h in
       let x = get_or guests k v in
       let nat = get_or_default guests k x v hk in
-      get_or-map (private_of e) guests k v b hk
-      ∙ device-others d e (number_of v) (ranges_of v) nobody widened x (other_number k x hk nat) holds.parts (apart_guest k x hk nat) (ties.holds k x hk nat)
-      ∙ sym (get_or-map (private_of d) guests k v b hk))
+      let here : own (number_of x) ≡ own k = ap own (ties.number k x hk nat) in
+      get_or-map (device_in own e) guests k v b hk
+      ∙ ap (private_of e x) here
+      ∙ device-others d e (number_of v) (ranges_of v) same x (own k) (other_number k x hk nat) holds.tables.parts (apart_guest k x hk nat) (ties.holds k x hk nat)
+      ∙ ap (private_of d x) (sym here)
+      ∙ sym (get_or-map (device_in own d) guests k v b hk))
 
-  pub machine-added : (new : PrivateDevice) → private_of e v ≡ new → machine_in e (guests ++ v ∷ []) ≡ machine_in d guests ++ new ∷ []
-  machine-added new is = map_push (private_of e) guests v ∙ (λ i. kept_all i ++ is i ∷ [])
+  pub machine-added : (new : PrivateDevice) → private_of e v (own (number_of v)) ≡ new → machine_in e own (guests ++ v ∷ []) ≡ machine_in d own guests ++ new ∷ []
+  machine-added new is = map_push (device_in own e) guests v ∙ (λ i. kept_all i ++ is i ∷ [])

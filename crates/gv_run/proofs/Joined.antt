@@ -1,82 +1,59 @@
--- The devices of guests that come later change nothing: a script's lines are its events, run on the
--- devices of all its guests.
+-- The devices of guests that come later change nothing: a script's lines are its inputs, over the devices of all
+-- its guests.
 use Rattle.std.proofs.Common.{◌≡◌, ℕ, zero, suc, ◌+◌, ◌<◌, List, [], ◌∷◌, ◌++◌, length, get_or, set, map, refl, ap, sym, ◌∙◌, subst, arith}
+use Rattle.std.proofs.Math.Seq.{map-set_same}
 use Rattle.std.proofs.lemmas.List.{append_assoc, append-nil, length-append, length-set, map-append, get_or_append_left, set-append_left}
 use Rattle.std.proofs.lemmas.List.Sums.{sum_by_push}
 use Rattle.std.specs.List.{AllByRecursion, flat_map, sum_by}
-use Rattle.gv_types.specs.declared.event.Event.{Event}
 use Rattle.gv_types.specs.declared.ranges.Ranges.{Ranges}
 use Rattle.gv_balloon.specs.Shares.{next_ranges, given_after, ranges_from}
 use Rattle.gv_balloon.specs.declared.given.Given.{Given}
 use Rattle.gv_text.specs.Script.{want_of}
-use Rattle.gv_text.specs.declared.report_line.ReportLine.{ReportLine}
 use Rattle.gv_text.specs.declared.script_line.Guest.{Guest as GuestForm}
 use Rattle.gv_text.specs.declared.script_line.Line.{Line}
 use Rattle.gv_text.specs.declared.script_line.Line.TheVariants.{Guest}
 use Rattle.gv_vgpu.specs.Device.{PrivateDevice, new_device}
-use Rattle.gv_vgpu.specs.Step.{device_after, reply_of, guest_of}
-use Rattle.gv_run.specs.Machine.{Machine, no_ranges, device_at, machine_after, machine_reply, events_of, run_events, run_lines, ranges_in, given_to}
-use Rattle.gv_run.specs.Report.{told, events_said, lines_said}
+use Rattle.gv_run.specs.Course.{Course, onto, play}
+use Rattle.gv_run.specs.Machine.{Machine, Input, Done, no_ranges, device_at, whose, device_course, input_course, inputs_in, line_course, ranges_in, given_to}
 use Rattle.gv_run.specs.Solo.{guests_of, no_guest}
-use Rattle.gv_run.proofs.KeptRanges.{ranges-run}
+use Rattle.gv_run.proofs.Courses.{play-append}
+use Rattle.gv_run.proofs.Devices.{device-same}
 use Rattle.gv_run.proofs.Named.{NamesBelow, IsRun}
 
-pub length-after : (m : Machine) (event : Event) → length (machine_after m event) ≡ length m
-length-after m event = length-set m (guest_of event).0 (device_after (device_at m (guest_of event).0) event)
+pub length-input : (m : Machine) (input : Input) → length (input_course m input).left ≡ length m
+length-input m input = length-set m (whose input) (device_course (device_at m (whose input)) input).left
 
-pub length-run : (m : Machine) (events : List Event) → length (run_events m events) ≡ length m
-length-run m [] = refl
-length-run m (event ∷ events) = length-run (machine_after m event) events ∙ length-after m event
+pub length-played : (m : Machine) (inputs : List Input) → length (play input_course m inputs).left ≡ length m
+length-played m [] = refl
+length-played m (input ∷ inputs) = length-played (input_course m input).left inputs ∙ length-input m input
 
-run-append : (m : Machine) (xs ys : List Event) → run_events m (xs ++ ys) ≡ run_events (run_events m xs) ys
-run-append m [] ys = refl
-run-append m (x ∷ xs) ys = run-append (machine_after m x) xs ys
+-- no input changes a device's ranges
+ranges-input : (m : Machine) (input : Input) → ranges_in (input_course m input).left ≡ ranges_in m
+ranges-input m input =
+    map-set_same (λ (p : PrivateDevice). p.ranges) m (whose input) (device_course (device_at m (whose input)) input).left (device_at [] 0) (device-same (device_at m (whose input)) input).ranges
 
-abbrev telling : Machine → Event → List ReportLine
-telling m event = told event (machine_reply m event)
-
-said-append : (m : Machine) (xs ys : List Event) → events_said m (xs ++ ys) ≡ events_said m xs ++ events_said (run_events m xs) ys
-said-append m [] ys = refl
-said-append m (x ∷ xs) ys =
-    ap (λ more. telling m x ++ more) (said-append (machine_after m x) xs ys)
-    ∙ sym (append_assoc (telling m x) (events_said (machine_after m x) xs) (events_said (run_events (machine_after m x) xs) ys))
+ranges-played : (m : Machine) (inputs : List Input) → ranges_in (play input_course m inputs).left ≡ ranges_in m
+ranges-played m [] = refl
+ranges-played m (input ∷ inputs) = ranges-played (input_course m input).left inputs ∙ ranges-input m input
 
 -- the devices `more` come later
 module _ (more : Machine) where
-  after_joined : (m : Machine) (event : Event) → NamesBelow (length m) event → machine_after (m ++ more) event ≡ machine_after m event ++ more
-  after_joined m event there =
-      ap (λ (p : PrivateDevice). set (m ++ more) (guest_of event).0 (device_after p event)) (get_or_append_left m more (new_device 0 0 no_ranges) (guest_of event).0 there)
-      ∙ set-append_left m more (guest_of event).0 (device_after (device_at m (guest_of event).0) event) there
+  -- a course with these devices behind
+  abbrev pub and_more : Course Machine Done → Course Machine Done
+  and_more c = record c { left = c.left ++ more }
 
-  telling_joined : (m : Machine) (event : Event) → NamesBelow (length m) event → telling (m ++ more) event ≡ telling m event
-  telling_joined m event there = ap (λ (p : PrivateDevice). told event (reply_of p event)) (get_or_append_left m more (new_device 0 0 no_ranges) (guest_of event).0 there)
+  input_joined : (m : Machine) (input : Input) → whose input < length m → input_course (m ++ more) input ≡ and_more (input_course m input)
+  input_joined m input there =
+      ap (λ (p : PrivateDevice). record { left = set (m ++ more) (whose input) (device_course p input).left; came = (device_course p input).came }) (get_or_append_left m more (new_device 0 0 no_ranges) (whose input) there)
+      ∙ (λ i. record { left = set-append_left m more (whose input) (device_course (device_at m (whose input)) input).left there i; came = (device_course (device_at m (whose input)) input).came })
 
-  still : (m : Machine) (event : Event) (events : List Event) → AllByRecursion (NamesBelow (length m)) events → AllByRecursion (NamesBelow (length (machine_after m event))) events
-  still m event events named = subst (λ n. AllByRecursion (NamesBelow n) events) (sym (length-after m event)) named
-
-  run_joined : (m : Machine) (events : List Event) → AllByRecursion (NamesBelow (length m)) events → run_events (m ++ more) events ≡ run_events m events ++ more
-  run_joined m [] named = refl
-  run_joined m (event ∷ events) named =
-      ap (λ (k : Machine). run_events k events) (after_joined m event named.0)
-      ∙ run_joined (machine_after m event) events (still m event events named.1)
-
-  said_joined : (m : Machine) (events : List Event) → AllByRecursion (NamesBelow (length m)) events → events_said (m ++ more) events ≡ events_said m events
-  said_joined m [] named = refl
-  said_joined m (event ∷ events) named =
-      ap (λ (lines : List ReportLine). lines ++ events_said (machine_after (m ++ more) event) events) (telling_joined m event named.0)
-      ∙ ap (λ (k : Machine). telling m event ++ events_said k events) (after_joined m event named.0)
-      ∙ ap (λ (lines : List ReportLine). telling m event ++ lines) (said_joined (machine_after m event) events (still m event events named.1))
-
-  run_step : (m : Machine) (events rest : List Event) (lines : List Line) → AllByRecursion (NamesBelow (length m)) events → run_lines (run_events m events) lines ≡ run_events (run_events m events ++ more) rest → run_lines (run_events m events) lines ≡ run_events (m ++ more) (events ++ rest)
-  run_step m events rest lines named kept =
-      kept ∙ sym (run-append (m ++ more) events rest ∙ ap (λ (k : Machine). run_events k rest) (run_joined m events named))
-
-  said_step : (m : Machine) (events rest : List Event) (lines : List Line) → AllByRecursion (NamesBelow (length m)) events → lines_said (run_events m events) lines ≡ events_said (run_events m events ++ more) rest → events_said m events ++ lines_said (run_events m events) lines ≡ events_said (m ++ more) (events ++ rest)
-  said_step m events rest lines named kept =
-      ap (λ (z : List ReportLine). events_said m events ++ z) kept
-      ∙ sym (said-append (m ++ more) events rest
-      ∙ ap (λ (z : List ReportLine). z ++ events_said (run_events (m ++ more) events) rest) (said_joined m events named)
-      ∙ ap (λ (k : Machine). events_said m events ++ events_said k rest) (run_joined m events named))
+  pub played_joined : (m : Machine) (inputs : List Input) → AllByRecursion (NamesBelow (length m)) inputs → play input_course (m ++ more) inputs ≡ and_more (play input_course m inputs)
+  played_joined m [] named = refl
+  played_joined m (input ∷ inputs) named =
+      let next = input_course m input in
+      let still = subst (λ n. AllByRecursion (NamesBelow n) inputs) (sym (length-input m input)) named.1 in
+      ap (λ (c : Course Machine Done). onto c (play input_course c.left inputs)) (input_joined m input named.0.0)
+      ∙ ap (onto (and_more next)) (played_joined next.left inputs still)
 
 -- the devices of guests, of whom the first has the number n and the next ranges
 abbrev pub devices_from : ℕ → Given → List GuestForm → Machine
@@ -106,11 +83,11 @@ devices_added m lines = devices_from (length m) (given_to (ranges_in m)) (guests
 abbrev pub with_guests : Machine → List Line → Machine
 with_guests m lines = m ++ devices_added m lines
 
--- events add no device and give out no ranges
-added_kept : (m : Machine) (events : List Event) (lines : List Line) → devices_added (run_events m events) lines ≡ devices_added m lines
-added_kept m events lines =
-    ap (λ n. devices_from n (given_to (ranges_in (run_events m events))) (guests_of lines)) (length-run m events)
-    ∙ ap (λ (all : List Ranges). devices_from (length m) (given_to all) (guests_of lines)) (ranges-run m events)
+-- inputs add no device and give out no ranges
+added_kept : (m : Machine) (inputs : List Input) (lines : List Line) → devices_added (play input_course m inputs).left lines ≡ devices_added m lines
+added_kept m inputs lines =
+    ap (λ n. devices_from n (given_to (ranges_in (play input_course m inputs).left)) (guests_of lines)) (length-played m inputs)
+    ∙ ap (λ (all : List Ranges). devices_from (length m) (given_to all) (guests_of lines)) (ranges-played m inputs)
 
 -- a `guest` line adds the first of the devices that it and the lines behind it add
 module _ (m : Machine) (g : GuestForm) (lines : List Line) where
@@ -138,25 +115,30 @@ module _ (m : Machine) (g : GuestForm) (lines : List Line) where
   later : IsRun (length m + 1) lines → IsRun (length (m ++ device ∷ [])) lines
   later run = subst (λ n. IsRun n lines) (sym one_more) run
 
-after_events : (m : Machine) (events : List Event) (lines : List Line) → IsRun (length m) lines → IsRun (length (run_events m events)) lines
-after_events m events lines run = subst (λ n. IsRun n lines) (sym (length-run m events)) run
+-- A script's lines are its inputs, over the devices of all its guests.
+abbrev pub all_course : Machine → List Line → Course Machine Done
+all_course m lines = play input_course (with_guests m lines) (flat_map inputs_in lines)
 
-pub run-joined : (m : Machine) (lines : List Line) → IsRun (length m) lines → run_lines m lines ≡ run_events (with_guests m lines) (flat_map events_of lines)
-run-joined m [] run = sym (append-nil m)
-run-joined m (Guest g ∷ lines) run =
-    run-joined (m ++ device m g lines ∷ []) lines (later m g lines run.1)
-    ∙ ap (λ (k : Machine). run_events k (flat_map events_of lines)) (added_first m g lines)
-run-joined m (line ∷ lines) run =
-    run_step (devices_added m lines) m (events_of line) (flat_map events_of lines) lines run.0
-    (run-joined (run_events m (events_of line)) lines (after_events m (events_of line) lines run.1)
-    ∙ ap (λ (more : Machine). run_events (run_events m (events_of line) ++ more) (flat_map events_of lines)) (added_kept m (events_of line) lines))
+line_joined : (m : Machine) (inputs : List Input) (lines : List Line) → AllByRecursion (NamesBelow (length m)) inputs → all_course (play input_course m inputs).left lines ≡ play input_course ((play input_course m inputs).left ++ devices_added m lines) (flat_map inputs_in lines)
+line_joined m inputs lines named = ap (λ (more : Machine). play input_course ((play input_course m inputs).left ++ more) (flat_map inputs_in lines)) (added_kept m inputs lines)
 
-pub said-joined : (m : Machine) (lines : List Line) → IsRun (length m) lines → lines_said m lines ≡ events_said (with_guests m lines) (flat_map events_of lines)
-said-joined m [] run = refl
-said-joined m (Guest g ∷ lines) run =
-    said-joined (m ++ device m g lines ∷ []) lines (later m g lines run.1)
-    ∙ ap (λ (k : Machine). events_said k (flat_map events_of lines)) (added_first m g lines)
-said-joined m (line ∷ lines) run =
-    said_step (devices_added m lines) m (events_of line) (flat_map events_of lines) lines run.0
-    (said-joined (run_events m (events_of line)) lines (after_events m (events_of line) lines run.1)
-    ∙ ap (λ (more : Machine). events_said (run_events m (events_of line) ++ more) (flat_map events_of lines)) (added_kept m (events_of line) lines))
+inputs_joined : (m : Machine) (inputs : List Input) (lines : List Line) → AllByRecursion (NamesBelow (length m)) inputs → onto (play input_course m inputs) (all_course (play input_course m inputs).left lines) ≡ play input_course (with_guests m lines) (inputs ++ flat_map inputs_in lines)
+inputs_joined m inputs lines named =
+    let more = devices_added m lines in
+    let c = play input_course m inputs in
+    let rest = flat_map inputs_in lines in
+    ap (onto c) (line_joined m inputs lines named)
+    ∙ sym (play-append input_course (m ++ more) inputs rest
+    ∙ ap (λ (k : Course Machine Done). onto k (play input_course k.left rest)) (played_joined more m inputs named))
+
+after_inputs : (m : Machine) (inputs : List Input) (lines : List Line) → IsRun (length m) lines → IsRun (length (play input_course m inputs).left) lines
+after_inputs m inputs lines run = subst (λ n. IsRun n lines) (sym (length-played m inputs)) run
+
+pub lines-joined : (m : Machine) (lines : List Line) → IsRun (length m) lines → play line_course m lines ≡ all_course m lines
+lines-joined m [] run = sym (λ i. record { left = append-nil m i; came = [] })
+lines-joined m (Guest g ∷ lines) run =
+    lines-joined (m ++ device m g lines ∷ []) lines (later m g lines run.1)
+    ∙ ap (λ (k : Machine). play input_course k (flat_map inputs_in lines)) (added_first m g lines)
+lines-joined m (line ∷ lines) run =
+    ap (onto (play input_course m (inputs_in line))) (lines-joined (play input_course m (inputs_in line)).left lines (after_inputs m (inputs_in line) lines run.1))
+    ∙ inputs_joined m (inputs_in line) lines run.0

@@ -1,13 +1,18 @@
 -- What is left of a script, line by line.
-use Rattle.std.proofs.Common.{◌≡◌, ℕ, ◌+◌, Bool, true, false, List, [], ◌∷◌, ◌++◌, Option, None, Some, cond, refl, ap, sym, ◌∙◌}
+use Rattle.std.proofs.Common.{◌≡◌, ℕ, ◌+◌, Bool, true, false, List, [], ◌∷◌, ◌++◌, Option, None, Some, cond, refl, ap, sym, ◌∙◌, subst}
+use Rattle.std.proofs.lemmas.List.{append_assoc, append-nil}
+use Rattle.std.proofs.lemmas.Grind.{flat_map-append}
 use Rattle.gv_text.specs.Report.{text_of}
 use Rattle.gv_text.specs.Script.{Script, script_from, script_on, ends, onto_script, lines_of, counts_last, missing, accepted, known_after, is_end}
 use Rattle.gv_text.specs.declared.ending.Ending.{Ending}
 use Rattle.gv_text.specs.declared.ending.Ending.TheVariants.{Done, BadScript}
 use Rattle.gv_text.specs.declared.known.Known.{Known}
 use Rattle.gv_text.specs.declared.script_line.Line.{Line}
-use Rattle.gv_run.specs.Machine.{Machine, run_lines, line_after, events_of}
-use Rattle.gv_run.specs.Report.{lines_said, events_said}
+use Rattle.gv_gpu.specs.Change.{Ran, RanUpTo, RanPart}
+use Rattle.gv_gpu.specs.Device.{Device, Entry}
+use Rattle.gv_run.specs.Course.{Course, onto}
+use Rattle.gv_run.specs.Machine.{Machine, Done as Came, line_course, ran_in, ran_all}
+use Rattle.gv_run.specs.Report.{said_of, said_all, course_of}
 use Rattle.gv_run.proofs.Text.{said_more, said_none}
 
 -- the script from line number n on
@@ -34,32 +39,121 @@ module _ (whole : Bool) (known : Known) (n : ℕ) (rest : List ℕ) where
     pub left_line : (line : Line) → accepted known bytes ≡ Some line → is_end line ≡ false → left_of whole known n rest ≡ onto_script line (left_of whole (known_after known line) (n + 1) after)
     left_line line is last = by_end line false is last
 
--- What was done and what is left of a script are the whole of it, from the machine m0 and the text
--- before on.
-pub record Left (m0 : Machine) (before : List ℕ) (all : Script) (m : Machine) (now : List ℕ) (left : Script) : Type 0 where
+-- ---- what was done, and what is left
+
+-- What was done and the course c of what is left are the whole course, from a text and a device on.
+pub record Left (all : Course Machine Came) (before : List ℕ) (start : Device) (c : Course Machine Came) (now : List ℕ) (d : Device) : Type 0 where
+  pub machine : c.left ≡ all.left
+  pub report : now ++ text_of (said_all c.came) ≡ before ++ text_of (said_all all.came)
+  pub ran : RanUpTo start d (ran_all c.came) (ran_all all.came)
+
+pub all_left : (all : Course Machine Came) (before : List ℕ) (start : Device) → Left all before start all before start
+all_left all before start = record {
+  machine = refl;
+  report = refl;
+  ran = record { done = []; ran = record { journal = sym (append-nil start.journal); strays = refl }; front = refl };
+}
+
+-- these commands ran, one after another
+ran_then : {d e f : Device} {xs ys : List Entry} → Ran d e xs → Ran e f ys → Ran d f (xs ++ ys)
+ran_then {d} {e} {f} {xs} {ys} first second = record {
+  journal = second.journal ∙ ap (λ z. z ++ ys) first.journal ∙ append_assoc d.journal xs ys;
+  strays = second.strays ∙ first.strays;
+}
+
+module _ (all : Course Machine Came) (before : List ℕ) (start : Device) where
+  module _ (first rest : Course Machine Came) (now : List ℕ) (d : Device) (kept : Left all before start (onto first rest) now d) where
+    ran_split : ran_all (first.came ++ rest.came) ≡ ran_all first.came ++ ran_all rest.came
+    ran_split = flat_map-append ran_in first.came rest.came
+
+    pub goes_on : (later : List ℕ) (e : Device) → later ≡ now ++ text_of (said_all first.came) → Ran d e (ran_all first.came) → Left all before start rest later e
+    goes_on later e told ran = record {
+      machine = kept.machine;
+      report = said_more now later (said_all first.came) (said_all rest.came) told
+          ∙ ap (λ z. now ++ text_of z) (sym (flat_map-append said_of first.came rest.came)) ∙ kept.report;
+      ran = record {
+        done = kept.ran.done ++ ran_all first.came;
+        ran = ran_then kept.ran.ran ran;
+        front = append_assoc kept.ran.done (ran_all first.came) (ran_all rest.came) ∙ ap (λ z. kept.ran.done ++ z) (sym ran_split) ∙ kept.ran.front;
+      };
+    }
+
+    -- the first of what is left began
+    pub stops_within : (e : Device) → RanPart d e (ran_all first.came) → RanPart start e (ran_all all.came)
+    stops_within e part = record {
+      left = part.left ++ ran_all rest.came;
+      part = record {
+        done = kept.ran.done ++ part.part.done;
+        ran = ran_then kept.ran.ran part.part.ran;
+        front =
+            append_assoc kept.ran.done part.part.done (part.left ++ ran_all rest.came)
+            ∙ ap (λ z. kept.ran.done ++ z) (sym (append_assoc part.part.done part.left (ran_all rest.came)) ∙ ap (λ z. z ++ ran_all rest.came) part.part.front ∙ sym ran_split)
+            ∙ kept.ran.front;
+      };
+    }
+
+  module _ (c : Course Machine Came) (now : List ℕ) (d : Device) (kept : Left all before start c now d) where
+    pub left-part : RanPart start d (ran_all all.came)
+    left-part = record { left = ran_all c.came; part = kept.ran }
+
+    -- nothing is left
+    module _ (m : Machine) (is : c ≡ record { left = m; came = [] }) where
+      pub over-machine : m ≡ all.left
+      over-machine = sym (ap (λ (c : Course Machine Came). c.left) is) ∙ kept.machine
+
+      pub over-report : now ≡ before ++ text_of (said_all all.came)
+      over-report = said_none now ∙ sym (ap (λ (c : Course Machine Came). now ++ text_of (said_all c.came)) is) ∙ kept.report
+
+      pub over-ran : Ran start d (ran_all all.came)
+      over-ran =
+          let whole : kept.ran.done ≡ ran_all all.came = sym (append-nil kept.ran.done) ∙ sym (ap (λ (c : Course Machine Came). kept.ran.done ++ ran_all c.came) is) ∙ kept.ran.front in
+          subst (Ran start d) whole kept.ran.ran
+
+-- what ran is all of it, as far as that goes
+pub ran-whole : {d e : Device} {xs : List Entry} → Ran d e xs → RanPart d e xs
+ran-whole {d} {e} {xs} ran = record { left = []; part = record { done = xs; ran = ran; front = append-nil xs } }
+
+-- before anything ran
+pub ran-before : (d : Device) (xs : List Entry) → RanPart d d xs
+ran-before d xs = record { left = xs; part = record { done = []; ran = record { journal = sym (append-nil d.journal); strays = refl }; front = refl } }
+
+-- ---- the whole script
+
+-- what is left of a script is its ending too
+pub record LeftOf (m0 : Machine) (before : List ℕ) (start : Device) (all : Script) (m : Machine) (now : List ℕ) (d : Device) (left : Script) : Type 0 where
   pub ending : left.ending ≡ all.ending
-  pub machine : run_lines m left.lines ≡ run_lines m0 all.lines
-  pub report : now ++ text_of (lines_said m left.lines) ≡ before ++ text_of (lines_said m0 all.lines)
+  pub course : Left (course_of m0 all) before start (course_of m left) now d
 
-pub all_left : (m0 : Machine) (before : List ℕ) (all : Script) → Left m0 before all m0 before all
-all_left m0 before all = record { ending = refl; machine = refl; report = refl }
+pub whole_left : (m0 : Machine) (before : List ℕ) (start : Device) (all : Script) → LeftOf m0 before start all m0 before start all
+whole_left m0 before start all = record { ending = refl; course = all_left (course_of m0 all) before start }
 
-module _ (m0 m : Machine) (before now : List ℕ) (all left : Script) (kept : Left m0 before all m now left) where
+module _ (m0 m : Machine) (before now : List ℕ) (start d : Device) (all left : Script) (kept : LeftOf m0 before start all m now d left) where
   module _ (ending : Ending) (is : left ≡ ends ending) where
-    pub over-ending : ending ≡ all.ending
-    over-ending = sym (ap (λ (s : Script). s.ending) is) ∙ kept.ending
+    none : course_of m left ≡ record { left = m; came = [] }
+    none = ap (course_of m) is
 
-    pub over-machine : m ≡ run_lines m0 all.lines
-    over-machine = sym (ap (λ (s : Script). run_lines m s.lines) is) ∙ kept.machine
+    pub end-ending : ending ≡ all.ending
+    end-ending = sym (ap (λ (s : Script). s.ending) is) ∙ kept.ending
 
-    pub over-report : now ≡ before ++ text_of (lines_said m0 all.lines)
-    over-report = said_none now ∙ sym (ap (λ (s : Script). now ++ text_of (lines_said m s.lines)) is) ∙ kept.report
+    pub end-machine : m ≡ (course_of m0 all).left
+    end-machine = over-machine (course_of m0 all) before start (course_of m left) now d kept.course m none
 
-  pub goes_on : (line : Line) (rest : Script) (next : Machine) (later : List ℕ) → left ≡ onto_script line rest → next ≡ line_after m line → later ≡ now ++ text_of (events_said m (events_of line)) → Left m0 before all next later rest
-  goes_on line rest next later is moved said = record {
-    ending = sym (ap (λ (s : Script). s.ending) is) ∙ kept.ending;
-    machine = ap (λ m. run_lines m rest.lines) moved ∙ sym (ap (λ (s : Script). run_lines m s.lines) is) ∙ kept.machine;
-    report = ap (λ m. later ++ text_of (lines_said m rest.lines)) moved
-        ∙ said_more now later (events_said m (events_of line)) (lines_said (line_after m line) rest.lines) said
-        ∙ sym (ap (λ (s : Script). now ++ text_of (lines_said m s.lines)) is) ∙ kept.report;
-  }
+    pub end-report : now ≡ before ++ text_of (said_all (course_of m0 all).came)
+    end-report = over-report (course_of m0 all) before start (course_of m left) now d kept.course m none
+
+    pub end-ran : Ran start d (ran_all (course_of m0 all).came)
+    end-ran = over-ran (course_of m0 all) before start (course_of m left) now d kept.course m none
+
+  module _ (line : Line) (rest : Script) (is : left ≡ onto_script line rest) where
+    first_left : Left (course_of m0 all) before start (onto (line_course m line) (course_of (line_course m line).left rest)) now d
+    first_left = subst (λ (c : Course Machine Came). Left (course_of m0 all) before start c now d) (ap (course_of m) is) kept.course
+
+    pub line-done : (next : Machine) (later : List ℕ) (e : Device) → next ≡ (line_course m line).left → later ≡ now ++ text_of (said_all (line_course m line).came) → Ran d e (ran_all (line_course m line).came) → LeftOf m0 before start all next later e rest
+    line-done next later e moved told ran = record {
+      ending = sym (ap (λ (s : Script). s.ending) is) ∙ kept.ending;
+      course = subst (λ (m : Machine). Left (course_of m0 all) before start (course_of m rest) later e) (sym moved)
+          (goes_on (course_of m0 all) before start (line_course m line) (course_of (line_course m line).left rest) now d first_left later e told ran);
+    }
+
+    pub line-began : (e : Device) → RanPart d e (ran_all (line_course m line).came) → RanPart start e (ran_all (course_of m0 all).came)
+    line-began e part = stops_within (course_of m0 all) before start (line_course m line) (course_of (line_course m line).left rest) now d first_left e part

@@ -4,8 +4,8 @@ use Rattle.std.proofs.lemmas.Bool.{cases_lt, le-leb, lt-leb}
 use Rattle.std.proofs.lemmas.List.{take-take, take_all, length-take-le}
 use Rattle.gv_text.specs.Report.{text_of}
 use Rattle.gv_text.specs.Script.{Script, script_of, script_in, script_limit}
-use Rattle.gv_run.specs.Machine.{run_lines}
-use Rattle.gv_run.specs.Report.{report_of, ending_of, machine_of, script_said}
+use Rattle.gv_run.specs.Machine.{ran_all}
+use Rattle.gv_run.specs.Report.{report_of, ending_of, machine_of, commands_in, course_of, script_said}
 
 by_length : (source : List ℕ) (b : Bool) → leb (length source) script_limit ≡ b → script_of source ≡ cond b (script_in true source) (script_in false (take script_limit source))
 unfolding script_of
@@ -40,7 +40,11 @@ module _ (a b : List ℕ) (is : script_of a ≡ script_of b) where
 
   pub same_machine : machine_of a ≡ machine_of b
   unfolding machine_of
-  same_machine = ap (λ (s : Script). run_lines [] s.lines) is
+  same_machine = ap (λ (s : Script). (course_of [] s).left) is
+
+  pub same_commands : commands_in a ≡ commands_in b
+  unfolding commands_in
+  same_commands = ap (λ (s : Script). ran_all (course_of [] s).came) is
 
 module _ (source : List ℕ) (s : Script) (is : script_of source ≡ s) where
   pub report_of-script : report_of source ≡ text_of (script_said [] s)
@@ -51,6 +55,10 @@ module _ (source : List ℕ) (s : Script) (is : script_of source ≡ s) where
   unfolding ending_of
   ending_of-script = ap (λ (s : Script). s.ending) is
 
-  pub machine_of-script : machine_of source ≡ run_lines [] s.lines
+  pub machine_of-script : machine_of source ≡ (course_of [] s).left
   unfolding machine_of
-  machine_of-script = ap (λ (s : Script). run_lines [] s.lines) is
+  machine_of-script = ap (λ (s : Script). (course_of [] s).left) is
+
+  pub commands_in-script : commands_in source ≡ ran_all (course_of [] s).came
+  unfolding commands_in
+  commands_in-script = ap (λ (s : Script). ran_all (course_of [] s).came) is

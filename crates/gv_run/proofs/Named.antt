@@ -1,4 +1,4 @@
--- The events of an accepted script name guests that are there.
+-- The inputs of an accepted script go to guests that are there.
 use Rattle.std.proofs.Common.{◌≡◌, ℕ, ◌+◌, ◌<◌, ◌≤◌, Bool, true, false, not, ◌&&◌, List, [], ◌∷◌, ◌++◌, Option, None, Some, cond, length, take, refl, ap, sym, ◌∙◌, subst, arith}
 use Rattle.std.proofs.lemmas.Bool.{ltb-true}
 use Rattle.std.proofs.lemmas.Bool.Decides.{nat_tests}
@@ -6,7 +6,6 @@ use Rattle.std.specs.Prelude.{nat_le, nat_lt}
 use Rattle.std.specs.List.{AllByRecursion, flat_map}
 use Rattle.gv_balloon.specs.Shares.{fits}
 use Rattle.gv_types.specs.Memory.{bytes_of}
-use Rattle.gv_types.specs.declared.event.Event.{Event}
 use Rattle.gv_types.specs.declared.event.Place.{Place}
 use Rattle.gv_types.specs.declared.event.Width.{Width}
 use Rattle.gv_types.specs.declared.ids.GuestId.{GuestId}
@@ -17,35 +16,39 @@ use Rattle.gv_text.specs.declared.ending.Ending.TheVariants.{Done}
 use Rattle.gv_text.specs.declared.known.Known.{Known}
 use Rattle.gv_text.specs.declared.script_line.Line.{Line}
 use Rattle.gv_text.specs.declared.script_line.Line.TheVariants.{Blank, Guest, Read, Write, Reset}
-use Rattle.gv_run.specs.Machine.{writes_of, events_of}
+use Rattle.gv_run.specs.Machine.{Input, event, turns, whose, writes_of, inputs_in}
 use Rattle.gv_run.specs.Solo.{guests_of}
-use Rattle.gv_vgpu.specs.Step.{guest_of}
 
--- the event's guest is one of the first n
-abbrev pub NamesBelow : ℕ → Event → Type 0
-NamesBelow n event = (guest_of event).0 < n
+-- a turn is of an engine that is there
+abbrev pub IsInput : Input → Type 0
+IsInput (event one) = Unit {0}
+IsInput (turns engine count) = engine.0 < 4
+
+-- and the input's guest is one of the first n
+abbrev pub NamesBelow : ℕ → Input → Type 0
+NamesBelow n input = (whose input < n) × IsInput input
 
 abbrev pub guests_after : ℕ → Line → ℕ
 guests_after n (Guest g) = n + 1
 guests_after n line = n
 
--- Each line's events name guests that are there, of whom there are n before the first line, and at
+-- Each line's inputs go to guests that are there, of whom there are n before the first line, and at
 -- most 8 in the end.
 abbrev pub IsRun : ℕ → List Line → Type 0
 IsRun n [] = n ≤ 8
-IsRun n (line ∷ lines) = AllByRecursion (NamesBelow n) (events_of line) × IsRun (guests_after n line) lines
+IsRun n (line ∷ lines) = AllByRecursion (NamesBelow n) (inputs_in line) × IsRun (guests_after n line) lines
 
 writes_named : (n : ℕ) (guest : GuestId) (place : Place) (width : Width) (at : ℕ) (values : List ℕ) → guest.0 < n → AllByRecursion (NamesBelow n) (writes_of guest place width at values)
 writes_named n guest place width at [] h = tt
-writes_named n guest place width at (value ∷ values) h = (h, writes_named n guest place width (at + bytes_of width) values h)
+writes_named n guest place width at (value ∷ values) h = ((h, tt), writes_named n guest place width (at + bytes_of width) values h)
 
 reset_named : (known : Known) (guest : ℕ) → accepts known (Reset guest) ≡ true → guest < known.guests
 reset_named known guest is = grind (arith, nat_tests)
 
-line_named : (known : Known) (line : Line) → accepts known line ≡ true → AllByRecursion (NamesBelow known.guests) (events_of line)
-line_named known (Read guest place width at) is = (ltb-true guest known.guests is, tt)
+line_named : (known : Known) (line : Line) → accepts known line ≡ true → AllByRecursion (NamesBelow known.guests) (inputs_in line)
+line_named known (Read guest place width at) is = ((ltb-true guest known.guests is, tt), tt)
 line_named known (Write guest place width at values) is = writes_named known.guests (record { 0 = guest }) place width at values (ltb-true guest known.guests is)
-line_named known (Reset guest) is = (reset_named known guest is, tt)
+line_named known (Reset guest) is = ((reset_named known guest is, tt), tt)
 line_named known line is = tt
 
 guests_kept : (known : Known) (line : Line) → (known_after known line).guests ≡ guests_after known.guests line
@@ -106,21 +109,21 @@ run-small n (Guest g ∷ lines) run =
     omega arith
 run-small n (line ∷ lines) run = run-small n lines run.1
 
-all_append : (n : ℕ) (xs ys : List Event) → AllByRecursion (NamesBelow n) xs → AllByRecursion (NamesBelow n) ys → AllByRecursion (NamesBelow n) (xs ++ ys)
+all_append : (n : ℕ) (xs ys : List Input) → AllByRecursion (NamesBelow n) xs → AllByRecursion (NamesBelow n) ys → AllByRecursion (NamesBelow n) (xs ++ ys)
 all_append n [] ys first second = second
 all_append n (x ∷ xs) ys first second = (first.0, all_append n xs ys first.1 second)
 
-pub named-more : (n k : ℕ) (xs : List Event) → n ≤ k → AllByRecursion (NamesBelow n) xs → AllByRecursion (NamesBelow k) xs
+pub named-more : (n k : ℕ) (xs : List Input) → n ≤ k → AllByRecursion (NamesBelow n) xs → AllByRecursion (NamesBelow k) xs
 named-more n k [] h named = tt
 named-more n k (x ∷ xs) h named =
-    let there : (guest_of x).0 < n = named.0 in
-    (omega arith, named-more n k xs h named.1)
+    let there : whose x < n = named.0.0 in
+    ((omega arith, named.0.1), named-more n k xs h named.1)
 
-pub run-named : (n : ℕ) (lines : List Line) → IsRun n lines → AllByRecursion (NamesBelow (n + length (guests_of lines))) (flat_map events_of lines)
+pub run-named : (n : ℕ) (lines : List Line) → IsRun n lines → AllByRecursion (NamesBelow (n + length (guests_of lines))) (flat_map inputs_in lines)
 run-named n [] run = tt
 run-named n (Guest g ∷ lines) run =
     let same : n + 1 + length (guests_of lines) ≡ n + length (guests_of (Guest g ∷ lines)) = omega arith in
-    subst (λ k. AllByRecursion (NamesBelow k) (flat_map events_of lines)) same (run-named (n + 1) lines run.1)
+    subst (λ k. AllByRecursion (NamesBelow k) (flat_map inputs_in lines)) same (run-named (n + 1) lines run.1)
 run-named n (line ∷ lines) run =
     let wide : n ≤ n + length (guests_of lines) = omega arith in
-    all_append (n + length (guests_of lines)) (events_of line) (flat_map events_of lines) (named-more n (n + length (guests_of lines)) (events_of line) wide run.0) (run-named n lines run.1)
+    all_append (n + length (guests_of lines)) (inputs_in line) (flat_map inputs_in lines) (named-more n (n + length (guests_of lines)) (inputs_in line) wide run.0) (run-named n lines run.1)

@@ -1,29 +1,28 @@
--- The lines of a report that speak of one guest, by its own device.
-use Rattle.std.proofs.Common.{◌≡◌, ◌≢◌, ℕ, zero, suc, ◌+◌, ◌<◌, Bool, true, false, Option, None, Some, List, [], ◌∷◌, ◌++◌, cond, eqb, length, filter, get_or, set, refl, ap, sym, ◌∙◌, arith}
-use Rattle.std.proofs.lemmas.Bool.{false≢true, eqb-true, eq-eqb}
-use Rattle.std.proofs.lemmas.List.{append-nil, get_or-set_same, get_or-set_other}
+-- The lines of a report that speak of one guest.
+use Rattle.std.proofs.Common.{◌≡◌, ◌≢◌, ℕ, zero, suc, ◌+◌, ◌<◌, Bool, true, false, Option, None, Some, List, [], ◌∷◌, ◌++◌, cond, eqb, length, filter, refl, ap, sym, ◌∙◌, subst, arith}
+use Rattle.std.proofs.lemmas.Bool.{eqb-true, eq-eqb}
+use Rattle.std.proofs.lemmas.List.{append-nil}
 use Rattle.std.proofs.lemmas.List.Elements.{filter-append}
-use Rattle.std.specs.List.{concat}
+use Rattle.std.specs.List.{concat, flat_map, AllByRecursion}
 use Rattle.gv_types.specs.declared.event.Event.{Event}
 use Rattle.gv_types.specs.declared.event.Event.TheVariants.{Read, Reset}
+use Rattle.gv_types.specs.declared.ids.EngineId.{EngineId}
 use Rattle.gv_types.specs.declared.ids.GuestId.{GuestId}
 use Rattle.gv_types.specs.declared.reply.Answer.{Answer}
 use Rattle.gv_types.specs.declared.reply.Answer.TheVariants.{Value}
+use Rattle.gv_types.specs.declared.reply.Reason.{Reason}
 use Rattle.gv_types.specs.declared.reply.Reply.{Reply}
 use Rattle.gv_text.specs.Guest.{speaks_of}
 use Rattle.gv_text.specs.declared.ending.Ending.{Ending}
-use Rattle.gv_text.specs.declared.ending.Ending.TheVariants.{Done, BadScript, TooLong}
+use Rattle.gv_text.specs.declared.ending.Ending.TheVariants.{Done as done, BadScript, TooLong}
 use Rattle.gv_text.specs.declared.report_line.ReportLine.{ReportLine}
 use Rattle.gv_text.specs.declared.report_line.ReportLine.TheVariants as said
-use Rattle.gv_vgpu.specs.Device.{PrivateDevice, new_device}
-use Rattle.gv_vgpu.specs.Step.{device_after, reply_of, guest_of}
-use Rattle.gv_run.specs.Machine.{Machine, no_ranges, device_at, machine_after, run_events}
-use Rattle.gv_run.specs.Report.{irq_said, answer_said, told, events_said, words_said, memory_said, memories_said, ending_said}
-use Rattle.gv_run.specs.Solo.{device_said, run_device, is_done}
-use Rattle.gv_run.proofs.Joined.{length-after}
-
-abbrev telling : PrivateDevice → Event → List ReportLine
-telling p event = told event (reply_of p event)
+use Rattle.gv_vgpu.specs.Device.{PrivateDevice}
+use Rattle.gv_run.specs.Machine.{Machine, Input, event, turns, Happened, Done, device_at, whose}
+use Rattle.gv_run.specs.Report.{irq_said, failsafe_said, answer_said, alarms_said, told, turn_said, said_by, said_of, said_all, words_said, memory_said, memories_said, ending_said}
+use Rattle.gv_run.specs.Solo.{is_done}
+use Rattle.gv_run.proofs.Devices.{NamesGuest, NamesOwner}
+use Rattle.gv_run.proofs.OwnCourse.{mine}
 
 abbrev nothing_said : List ReportLine
 nothing_said = []
@@ -37,8 +36,9 @@ module _ (g : ℕ) where
   abbrev spoken : List ReportLine → List ReportLine
   spoken lines = filter (speaks_of g) lines
 
-  abbrev own : List Event → List Event
-  own events = filter (λ event. eqb (guest_of event).0 g) events
+  -- these lines speak of guest k
+  record SpeakOf (k : ℕ) (lines : List ReportLine) : Type 0 where
+    all : spoken lines ≡ cond (eqb k g) lines []
 
   spoken-append : (xs ys : List ReportLine) → spoken (xs ++ ys) ≡ spoken xs ++ spoken ys
   spoken-append xs ys = filter-append (speaks_of g) xs ys
@@ -47,65 +47,61 @@ module _ (g : ℕ) where
   cond_append true xs ys = refl
   cond_append false xs ys = refl
 
-  irq_spoken : (guest : GuestId) (irq : Option ℕ) → spoken (irq_said guest irq) ≡ cond (eqb guest.0 g) (irq_said guest irq) []
-  irq_spoken guest None = neither (eqb guest.0 g)
-  irq_spoken guest (Some pending) = refl
+  speak-append : (k : ℕ) (xs ys : List ReportLine) → SpeakOf k xs → SpeakOf k ys → SpeakOf k (xs ++ ys)
+  speak-append k xs ys first second = record {
+    all = spoken-append xs ys
+        ∙ ap (λ (z : List ReportLine). z ++ spoken ys) first.all
+        ∙ ap (λ (z : List ReportLine). cond (eqb k g) xs [] ++ z) second.all
+        ∙ cond_append (eqb k g) xs ys;
+  }
 
-  answer_spoken : (event : Event) (guest : GuestId) (answer : Answer) → spoken (answer_said event guest answer) ≡ cond (eqb guest.0 g) (answer_said event guest answer) []
-  answer_spoken (Read from place width at) guest (Value value) = refl
-  answer_spoken (Reset from) guest answer = refl
-  answer_spoken event guest answer = neither (eqb guest.0 g)
+  irq_speaks : (guest : GuestId) (irq : Option ℕ) → SpeakOf guest.0 (irq_said guest irq)
+  irq_speaks guest None = record { all = neither (eqb guest.0 g) }
+  irq_speaks guest (Some pending) = record { all = refl }
 
-  -- what is told of an event speaks of its guest
-  told_spoken : (event : Event) (reply : Reply) → spoken (told event reply) ≡ cond (eqb reply.guest.0 g) (told event reply) []
-  told_spoken event reply =
-      let irq = irq_said reply.guest reply.irq in
-      let answer = answer_said event reply.guest reply.answer in
-      spoken-append irq answer
-      ∙ ap (λ (z : List ReportLine). z ++ spoken answer) (irq_spoken reply.guest reply.irq)
-      ∙ ap (λ (z : List ReportLine). cond (eqb reply.guest.0 g) irq [] ++ z) (answer_spoken event reply.guest reply.answer)
-      ∙ cond_append (eqb reply.guest.0 g) irq answer
+  failsafe_speaks : (guest : GuestId) (reason : Option Reason) → SpeakOf guest.0 (failsafe_said guest reason)
+  failsafe_speaks guest None = record { all = neither (eqb guest.0 g) }
+  failsafe_speaks guest (Some reason) = record { all = refl }
 
-  telling_spoken : (event : Event) (p : PrivateDevice) → spoken (telling p event) ≡ cond (eqb (guest_of event).0 g) (telling p event) []
-  telling_spoken event p = told_spoken event (reply_of p event)
+  answer_speaks : (one : Event) (guest : GuestId) (answer : Answer) → SpeakOf guest.0 (answer_said one guest answer)
+  answer_speaks (Read from place width at) guest (Value value) = record { all = refl }
+  answer_speaks (Reset from) guest answer = record { all = refl }
+  answer_speaks one guest answer = record { all = neither (eqb guest.0 g) }
 
-  module _ (m : Machine) (event : Event) (there : g < length m) where
-    after_own : (guest_of event).0 ≡ g → device_at (machine_after m event) g ≡ device_after (device_at m g) event
-    after_own same =
-        ap (λ (i : ℕ). get_or (set m i (device_after (device_at m i) event)) g (new_device 0 0 no_ranges)) same
-        ∙ get_or-set_same m g (device_after (device_at m g) event) (new_device 0 0 no_ranges) there
+  alarms_speak : (reply : Reply) → SpeakOf reply.guest.0 (alarms_said reply)
+  alarms_speak reply = speak-append reply.guest.0 (irq_said reply.guest reply.irq) (failsafe_said reply.guest reply.failsafe) (irq_speaks reply.guest reply.irq) (failsafe_speaks reply.guest reply.failsafe)
 
-    after_other : eqb (guest_of event).0 g ≡ false → device_at (machine_after m event) g ≡ device_at m g
-    after_other is =
-        let differ : g ≢ (guest_of event).0 = λ same. false≢true (sym is ∙ eq-eqb (guest_of event).0 g (sym same)) in
-        get_or-set_other m (guest_of event).0 g (device_after (device_at m (guest_of event).0) event) (new_device 0 0 no_ranges) differ
+  told_speaks : (one : Event) (reply : Reply) → SpeakOf reply.guest.0 (told one reply)
+  told_speaks one reply = speak-append reply.guest.0 (alarms_said reply) (answer_said one reply.guest reply.answer) (alarms_speak reply) (answer_speaks one reply.guest reply.answer)
 
-    said_step : (events : List Event) (b : Bool) → eqb (guest_of event).0 g ≡ b → spoken (events_said (machine_after m event) events) ≡ device_said (device_at (machine_after m event) g) (own events) → spoken (events_said m (event ∷ events)) ≡ device_said (device_at m g) (cond b (event ∷ own events) (own events))
-    said_step events true is more =
-        let same : (guest_of event).0 ≡ g = eqb-true (guest_of event).0 g is in
-        spoken-append (telling (device_at m (guest_of event).0) event) (events_said (machine_after m event) events)
-        ∙ ap (λ (z : List ReportLine). z ++ spoken (events_said (machine_after m event) events)) (telling_spoken event (device_at m (guest_of event).0) ∙ ap (λ (b : Bool). cond b (telling (device_at m (guest_of event).0) event) []) is)
-        ∙ ap (λ (i : ℕ). telling (device_at m i) event ++ spoken (events_said (machine_after m event) events)) same
-        ∙ ap (λ (z : List ReportLine). telling (device_at m g) event ++ z) (more ∙ ap (λ (p : PrivateDevice). device_said p (own events)) (after_own same))
-    said_step events false is more =
-        spoken-append (telling (device_at m (guest_of event).0) event) (events_said (machine_after m event) events)
-        ∙ ap (λ (z : List ReportLine). z ++ spoken (events_said (machine_after m event) events)) (telling_spoken event (device_at m (guest_of event).0) ∙ ap (λ (b : Bool). cond b (telling (device_at m (guest_of event).0) event) []) is)
-        ∙ more ∙ ap (λ (p : PrivateDevice). device_said p (own events)) (after_other is)
+  -- what each says speaks of the guest that its reply names
+  each_speaks : (f : Happened → List ReportLine) → ((h : Happened) → SpeakOf h.reply.guest.0 (f h)) → (k : ℕ) (came : List Happened) → AllByRecursion (NamesGuest k) came → SpeakOf k (flat_map f came)
+  each_speaks f speaks k [] names = record { all = neither (eqb k g) }
+  each_speaks f speaks k (h ∷ came) names =
+      speak-append k (f h) (flat_map f came) (subst (λ k. SpeakOf k (f h)) names.0 (speaks h)) (each_speaks f speaks k came names.1)
 
-    run_step : (events : List Event) (b : Bool) → eqb (guest_of event).0 g ≡ b → device_at (run_events (machine_after m event) events) g ≡ run_device (device_at (machine_after m event) g) (own events) → device_at (run_events m (event ∷ events)) g ≡ run_device (device_at m g) (cond b (event ∷ own events) (own events))
-    run_step events true is more = more ∙ ap (λ (p : PrivateDevice). run_device p (own events)) (after_own (eqb-true (guest_of event).0 g is))
-    run_step events false is more = more ∙ ap (λ (p : PrivateDevice). run_device p (own events)) (after_other is)
+  turn_speaks : (engine : EngineId) (k : ℕ) (came : List Happened) → AllByRecursion (NamesGuest k) came → SpeakOf k (turn_said engine came)
+  turn_speaks engine k [] names = record { all = neither (eqb k g) }
+  turn_speaks engine k (h ∷ came) names = subst (λ k. SpeakOf k (turn_said engine (h ∷ came))) names.0 (record { all = refl })
 
-    still_there : g < length (machine_after m event)
-    still_there = let same = length-after m event in omega arith
+  input_speaks : (input : Input) (k : ℕ) (came : List Happened) → AllByRecursion (NamesGuest k) came → SpeakOf k (said_by input came)
+  input_speaks (event one) k came names = each_speaks (λ (h : Happened). told one h.reply) (λ h. told_speaks one h.reply) k came names
+  input_speaks (turns engine count) k came names =
+      speak-append k (flat_map (λ (h : Happened). alarms_said h.reply) came) (turn_said engine came)
+      (each_speaks (λ (h : Happened). alarms_said h.reply) (λ h. alarms_speak h.reply) k came names) (turn_speaks engine k came names)
 
-  pub events-spoken : (m : Machine) (events : List Event) → g < length m → spoken (events_said m events) ≡ device_said (device_at m g) (own events)
-  events-spoken m [] there = refl
-  events-spoken m (event ∷ events) there = said_step m event there events (eqb (guest_of event).0 g) refl (events-spoken (machine_after m event) events (still_there m event there))
+  by_owner : (d : Done) (came : List Done) (b : Bool) → eqb (whose d.input) g ≡ b → cond b (said_of d) [] ++ said_all (mine g came) ≡ said_all (cond b (d ∷ mine g came) (mine g came))
+  by_owner d came true is = refl
+  by_owner d came false is = refl
 
-  pub events-own : (m : Machine) (events : List Event) → g < length m → device_at (run_events m events) g ≡ run_device (device_at m g) (own events)
-  events-own m [] there = refl
-  events-own m (event ∷ events) there = run_step m event there events (eqb (guest_of event).0 g) refl (events-own (machine_after m event) events (still_there m event there))
+  -- The lines that speak of a guest are those of its inputs.
+  pub said-spoken : (came : List Done) → AllByRecursion NamesOwner came → spoken (said_all came) ≡ said_all (mine g came)
+  said-spoken [] names = refl
+  said-spoken (d ∷ came) names =
+      spoken-append (said_of d) (said_all came)
+      ∙ ap (λ (z : List ReportLine). z ++ spoken (said_all came)) (input_speaks d.input (whose d.input) d.events names.0).all
+      ∙ ap (λ (z : List ReportLine). cond (eqb (whose d.input) g) (said_of d) [] ++ z) (said-spoken came names.1)
+      ∙ by_owner d came (eqb (whose d.input) g) refl
 
   word_spoken : (k : ℕ) (at word : ℕ) (b t : Bool) → eqb k g ≡ b → spoken (cond t [] (said.Memory (record { 0 = k }) at word ∷ [])) ≡ cond b (cond t [] (said.Memory (record { 0 = k }) at word ∷ [])) []
   word_spoken k at word b true is = neither b
@@ -150,7 +146,7 @@ module _ (g : ℕ) where
       memories_step k p m false (differs k differ (eqb k g) refl) ∙ memories_own (k + 1) m j (omega arith) (omega arith)
 
   pub ending-spoken : (ending : Ending) (m : Machine) → g < length m → spoken (ending_said ending m) ≡ cond (is_done ending) (memory_said g (device_at m g).memory) []
-  ending-spoken Done m there =
+  ending-spoken done m there =
       spoken-append (memories_said 0 m) (said.Done ∷ [])
       ∙ append-nil (spoken (memories_said 0 m))
       ∙ memories_own 0 m g there (omega arith)

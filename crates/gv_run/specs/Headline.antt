@@ -6,7 +6,8 @@ use Rattle.gv_text.specs.Guest.{lines_of_guest}
 use Rattle.gv_text.specs.Script.{script_of}
 use Rattle.gv_text.specs.declared.ending.Ending.{Ending}
 use Rattle.gv_text.specs.declared.ending.Ending.TheVariants as endings
-use Rattle.gv_run.specs.Report.{report_of}
+use Rattle.gv_gpu.specs.Device.{Device}
+use Rattle.gv_run.specs.Report.{report_of, commands_in}
 use Rattle.gv_run.specs.Solo.{solo, guests_of, frames_of, ranges_of, inputs_of, is_done}
 use Rattle.gv_run.specs.declared.call.Status.{Status}
 use Rattle.gv_run.specs.declared.call.Status.TheVariants.{Done, BadWords, ReadFault, BadScript, TooLong, DeviceFault}
@@ -32,8 +33,12 @@ tells_ending status = false
 abbrev pub WritesPart : Option (List ℕ) → Option (List ℕ) → List ℕ → Type 0
 WritesPart old new source = (n : ℕ) × Appends old new (take n (report_of source))
 
+-- A front of the commands of the script's devices is in the journal.
+abbrev pub RanPartOf : Device → List ℕ → Type 0
+RanPartOf d source = (n : ℕ) × (d.journal ≡ take n (commands_in source))
+
 -- Each guest's lines of a text are the report of its own device alone: a function of its number, its
--- frames, its ranges, its events, and whether the script ends with `end`.
+-- frames, its ranges, its inputs, and whether the script ends with `end`.
 abbrev pub IsPrivate : List ℕ → List ℕ → Type 0
 IsPrivate source text =
     (g : ℕ) → g < length (guests_of (script_of source).lines) →
@@ -50,8 +55,8 @@ IsOfPlay ReadFault = ⊥
 IsOfPlay DeviceFault = ⊥
 IsOfPlay status = Unit {0}
 
--- Two scripts that a guest can't tell apart: they have the guest, with the same frames, ranges and events,
--- and either both end with `end` or neither does.
+-- Two scripts that a guest can't tell apart: they have the guest, with the same frames, ranges and
+-- inputs, and either both end with `end` or neither does.
 pub record LooksAlike (g : ℕ) (a b : List ℕ) : Type 0 where
   pub first : g < length (guests_of (script_of a).lines)
   pub second : g < length (guests_of (script_of b).lines)

@@ -1,3 +1,4 @@
+pub mod Course
 pub mod Headline
 pub mod Machine
 pub mod Report

@@ -1,45 +1,78 @@
--- The report of a script: what the machine replies, line by line, and then by the ending.
-use Rattle.std.specs.Prelude.{ℕ, ◌+◌, List, [], ◌∷◌, ◌++◌, Option, None, Some, if◌then◌else◌, ◌==◌}
-use Rattle.std.specs.List.{concat}
+-- The report of a script: what came of its inputs, line by line, and then by the ending.
+use Rattle.std.specs.Prelude.{ℕ, ◌+◌, List, [], ◌∷◌, ◌++◌, Option, None, Some, if◌then◌else◌, ◌==◌, map, count_by}
+use Rattle.std.specs.List.{concat, flat_map}
 use Rattle.gv_types.specs.Memory.{Memory}
 use Rattle.gv_types.specs.declared.event.Event.{Event}
 use Rattle.gv_types.specs.declared.event.Event.TheVariants as events
 use Rattle.gv_types.specs.declared.reply.Answer.{Answer}
-use Rattle.gv_types.specs.declared.reply.Answer.TheVariants.{Value}
+use Rattle.gv_types.specs.declared.reply.Answer.TheVariants.{Value, Turn}
+use Rattle.gv_types.specs.declared.reply.Outcome.TheVariants as outcomes
+use Rattle.gv_types.specs.declared.reply.Reason.{Reason}
+use Rattle.gv_types.specs.declared.ids.EngineId.{EngineId}
 use Rattle.gv_types.specs.declared.ids.GuestId.{GuestId}
 use Rattle.gv_types.specs.declared.reply.Reply.{Reply}
 use Rattle.gv_gpu.specs.Device.{Entry}
 use Rattle.gv_text.specs.Report.{text_of}
 use Rattle.gv_text.specs.Script.{Script, script_of}
 use Rattle.gv_text.specs.declared.ending.Ending.{Ending}
-use Rattle.gv_text.specs.declared.ending.Ending.TheVariants.{Done, BadScript, TooLong}
+use Rattle.gv_text.specs.declared.ending.Ending.TheVariants.{Done as done, BadScript, TooLong}
 use Rattle.gv_text.specs.declared.report_line.ReportLine.{ReportLine}
 use Rattle.gv_text.specs.declared.report_line.ReportLine.TheVariants as said
 use Rattle.gv_text.specs.declared.script_line.Line.{Line}
-use Rattle.gv_run.specs.Machine.{Machine, machine_after, machine_reply, events_of, line_after, run_lines, lines_commands}
+use Rattle.gv_run.specs.Course.{Course, play}
+use Rattle.gv_run.specs.Machine.{Machine, Input, event, turns, Happened, Done, line_course, ran_all}
 
 -- an interrupt that was injected, with the pending bits then
 abbrev pub irq_said : GuestId → Option ℕ → List ReportLine
 irq_said guest None = []
 irq_said guest (Some pending) = said.Irq guest pending ∷ []
 
+-- that the guest entered failsafe
+abbrev pub failsafe_said : GuestId → Option Reason → List ReportLine
+failsafe_said guest None = []
+failsafe_said guest (Some reason) = said.Failsafe guest reason ∷ []
+
 -- what an event's answer is told as: a read tells its value, and a function reset itself
 abbrev pub answer_said : Event → GuestId → Answer → List ReportLine
 answer_said (events.Read guest place width at) whose (Value value) = said.Read whose place width at value ∷ []
 answer_said (events.Reset guest) whose answer = said.Reset whose ∷ []
-answer_said event whose answer = []
+answer_said one whose answer = []
 
--- An interrupt comes before the event's own line.
+-- An interrupt and failsafe are told as they happen.
+abbrev pub alarms_said : Reply → List ReportLine
+alarms_said reply = irq_said reply.guest reply.irq ++ failsafe_said reply.guest reply.failsafe
+
+-- They come before the event's own line.
 abbrev pub told : Event → Reply → List ReportLine
-told event reply = irq_said reply.guest reply.irq ++ answer_said event reply.guest reply.answer
+told one reply = alarms_said reply ++ answer_said one reply.guest reply.answer
 
-abbrev pub events_said : Machine → List Event → List ReportLine
-events_said m [] = []
-events_said m (event ∷ events) = told event (machine_reply m event) ++ events_said (machine_after m event) events
+-- how many turns ran, waited, ended, loaded, failed and were idle
+abbrev pub column_of : Answer → ℕ
+column_of (Turn outcomes.Ran) = 0
+column_of (Turn outcomes.Waited) = 1
+column_of (Turn outcomes.Ended) = 2
+column_of (Turn outcomes.Loaded) = 3
+column_of (Turn outcomes.Failed) = 4
+column_of (Turn outcomes.Idle) = 5
+column_of answer = 6
 
-abbrev pub lines_said : Machine → List Line → List ReportLine
-lines_said m [] = []
-lines_said m (line ∷ lines) = events_said m (events_of line) ++ lines_said (line_after m line) lines
+abbrev pub counts_of : List Happened → List ℕ
+counts_of came = map (λ column. count_by (λ (h : Happened). column_of h.reply.answer == column) came) (0 ∷ 1 ∷ 2 ∷ 3 ∷ 4 ∷ 5 ∷ [])
+
+-- the line of some turns, of the guest that owns the engine
+abbrev pub turn_said : EngineId → List Happened → List ReportLine
+turn_said engine [] = []
+turn_said engine (h ∷ came) = said.Turn h.reply.guest engine (counts_of (h ∷ came)) ∷ []
+
+abbrev pub said_by : Input → List Happened → List ReportLine
+said_by (event one) came = flat_map (λ (h : Happened). told one h.reply) came
+said_by (turns engine count) came = flat_map (λ (h : Happened). alarms_said h.reply) came ++ turn_said engine came
+
+abbrev pub said_of : Done → List ReportLine
+said_of d = said_by d.input d.events
+
+abbrev pub said_all : List Done → List ReportLine
+said_all came = flat_map said_of came
 
 -- the words from an address on that aren't 0
 abbrev pub words_said : ℕ → ℕ → List ℕ → List ReportLine
@@ -56,12 +89,16 @@ memories_said g (p ∷ m) = memory_said g p.memory ++ memories_said (g + 1) m
 
 -- what is said at the end, by the machine then
 abbrev pub ending_said : Ending → Machine → List ReportLine
-ending_said Done m = memories_said 0 m ++ said.Done ∷ []
+ending_said done m = memories_said 0 m ++ said.Done ∷ []
 ending_said (BadScript n) m = said.Refused n ∷ []
 ending_said TooLong m = said.TooLong ∷ []
 
+-- the course of a script's lines, from a machine on
+abbrev pub course_of : Machine → Script → Course Machine Done
+course_of m script = play line_course m script.lines
+
 abbrev pub script_said : Machine → Script → List ReportLine
-script_said m script = lines_said m script.lines ++ ending_said script.ending (run_lines m script.lines)
+script_said m script = said_all (course_of m script).came ++ ending_said script.ending (course_of m script).left
 
 unfoldable pub report_of : List ℕ → List ℕ
 report_of source = text_of (script_said [] (script_of source))
@@ -72,8 +109,8 @@ ending_of source = (script_of source).ending
 
 -- the machine in the end
 unfoldable pub machine_of : List ℕ → Machine
-machine_of source = run_lines [] (script_of source).lines
+machine_of source = (course_of [] (script_of source)).left
 
 -- the commands that the devices ran, in order
 unfoldable pub commands_in : List ℕ → List Entry
-commands_in source = lines_commands [] (script_of source).lines
+commands_in source = ran_all (course_of [] (script_of source)).came

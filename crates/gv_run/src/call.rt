@@ -1,11 +1,12 @@
 ghost use Rattle.std.specs.Prelude.{◌↔◌, ◌≡◌, ◌≢◌, ℕ, ◌+◌, ◌^◌, ◌<◌, ◌≤◌, length, IfOk, IfSome, IsErrOf, map, take, true, false};
 ghost use Rattle.std.specs.Io.KnownBytes.{Appends};
 ghost use Rattle.gv_outside.specs.Causes.{Rose};
+ghost use Rattle.gv_gpu.specs.Change.{Ran, RanPart};
 ghost use Rattle.gv_gpu.specs.Device.{IsEmpty};
 ghost use Rattle.gv_run.specs.Report.{report_of, ending_of, machine_of, commands_in};
 ghost use Rattle.gv_text.specs.Script.{script_limit};
-ghost use Rattle.gv_run.specs.Headline.{is_run, status_of, tells_ending, WritesPart, WritesPrivate, IsOfPlay};
-ghost use Rattle.gv_run.specs.Tied.{Keeps, RanNothing};
+ghost use Rattle.gv_run.specs.Headline.{is_run, status_of, tells_ending, WritesPart, WritesPrivate, RanPartOf, IsOfPlay};
+ghost use Rattle.gv_run.specs.Tied.{Keeps};
 
 use crate::script::{LIMIT, run_script};
 use gv_gpu::Gpu;
@@ -90,7 +91,8 @@ fn play<K: Sink, G: Gpu>(alloc: Global, text: &[u8], sink: &mut K, gpu: &mut G) 
     ensures report { tells_ending result ≡ true → Appends (K.held sink.old) (K.held sink.new) (report_of text.now) }
     ensures part { WritesPart (K.held sink.old) (K.held sink.new) text.now }
     ensures pages { result ≡ Status.Done → Keeps (G.state gpu.new) (machine_of text.now) }
-    ensures ran { RanNothing (G.state gpu.old) (G.state gpu.new) }
+    ensures ran { tells_ending result ≡ true → Ran (G.state gpu.old) (G.state gpu.new) (commands_in text.now) }
+    ensures ran_part { RanPart (G.state gpu.old) (G.state gpu.new) (commands_in text.now) }
     ensures write { result ≡ Status.WriteFault → Rose (K.faults sink.old) (K.faults sink.new) }
     ensures only { IsOfPlay result }
 {
@@ -125,7 +127,7 @@ pub fn mediate<S: Source, K: Sink, G: Gpu>(
 
     // The device ran these devices' commands, touched no page of another guest, and has their memory.
     ensures journal { tells_ending result ≡ true → IfSome (S.left source.old) (λ bytes. (G.state gpu.new).journal ≡ commands_in bytes) }
-    ensures ran_nothing_else { (G.state gpu.new).journal ≡ (G.state gpu.old).journal }
+    ensures journal_part { IfSome (S.left source.old) (RanPartOf (G.state gpu.new)) }
     ensures strays { (G.state gpu.new).strays ≡ 0 }
     ensures pages { result ≡ Status.Done → IfSome (S.left source.old) (λ bytes. Keeps (G.state gpu.new) (machine_of bytes)) }
 

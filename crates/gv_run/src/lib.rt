@@ -6,8 +6,6 @@ mod laws;
 mod machine;
 mod run;
 mod script;
-#[cfg(test)]
-mod tests;
 
 pub use call::{Status, mediate};
 pub use laws::equal_guests_are_told_the_same;

@@ -1,16 +1,18 @@
-ghost use Rattle.std.specs.Prelude.{◌≡◌, ◌<◌, length, map, None};
-ghost use Rattle.gv_vgpu.specs.Access.{IsAccess};
-ghost use Rattle.gv_vgpu.specs.Step.{guest_of};
-ghost use Rattle.gv_types.specs.declared.event.Event.TheVariants.{Reset};
-ghost use Rattle.gv_run.specs.Machine.{machine_after, machine_reply};
-ghost use Rattle.gv_run.specs.Tied.{Ties, RanNothing, IsGuestEvent, machine_in, all_ranges};
+ghost use Rattle.std.specs.Prelude.{◌≡◌, ◌<◌, length, None};
+ghost use Rattle.gv_gpu.specs.Change.{Ran};
+ghost use Rattle.gv_vgpu.specs.Holds.{Holds, KeepsGuest, private_of, number_of, part_of, is_here};
+ghost use Rattle.gv_vgpu.specs.Step.{answer, guest_of};
+ghost use Rattle.gv_run.specs.Machine.{device_at, event as one_event, input_course};
+ghost use Rattle.gv_run.specs.Tied.{Ties, first_owner, IsGuestEvent, machine_in, all_ranges};
 
 use gv_gpu::Gpu;
 use gv_types::{Answer, Event, GuestId, Reply};
 use gv_vgpu::Vgpu;
 
-// Guest 0 owns every engine.
-fn engines_of(guest: GuestId) -> [bool; 4] {
+// The engines that a guest owns: guest 0 owns every engine.
+fn engines_of(guest: GuestId) -> [bool; 4]
+    ensures { is_here result ≡ first_owner guest.0 }
+{
     [guest.0 == 0; 4]
 }
 
@@ -28,61 +30,41 @@ fn guest_of(event: &Event) -> GuestId
     }
 }
 
-// A read or a write of a guest's.
-fn access<G: Gpu>(gpu: &mut G, guests: &mut [Vgpu], guest: GuestId, event: &Event) -> Reply
-    requires ties { Ties (G.state gpu.old) guests.old }
-    requires there { guest.0 < length guests.old }
-    requires own { guest_of event.now ≡ guest }
-    requires access { IsAccess event.now }
-    ensures reply { result ≡ machine_reply (machine_in (G.state gpu.old) guests.old) event.now }
-    ensures ties { Ties (G.state gpu.new) guests.new }
-    ensures machine { machine_in (G.state gpu.new) guests.new ≡ machine_after (machine_in (G.state gpu.old) guests.old) event.now }
-    ensures ranges { all_ranges guests.new ≡ all_ranges guests.old }
-    ensures ran { RanNothing (G.state gpu.old) (G.state gpu.new) }
-    ensures live { (G.state gpu.new).live ≡ (G.state gpu.old).live }
-{
-    guests[guest.0 as usize]
-        .access(gpu, engines_of(guest), event)
-        .unwrap()
-}
-
-// A function reset of a guest's.
-fn reset<G: Gpu>(gpu: &mut G, guests: &mut [Vgpu], guest: GuestId)
-    requires ties { Ties (G.state gpu.old) guests.old }
-    requires there { guest.0 < length guests.old }
-    ensures ties { Ties (G.state gpu.new) guests.new }
-    ensures machine { machine_in (G.state gpu.new) guests.new ≡ machine_after (machine_in (G.state gpu.old) guests.old) (Reset guest) }
-    ensures ranges { all_ranges guests.new ≡ all_ranges guests.old }
-    ensures ran { RanNothing (G.state gpu.old) (G.state gpu.new) }
-    ensures live { (G.state gpu.new).live ≡ (G.state gpu.old).live }
-{
-    guests[guest.0 as usize]
-        .reset(gpu, engines_of(guest))
-        .unwrap()
-}
-
-/// One event of a guest that is there: the reply is that of the machine, which is as after the
-/// event then.
-pub fn event<G: Gpu>(gpu: &mut G, guests: &mut [Vgpu], event: &Event) -> Reply
-    requires ties { Ties (G.state gpu.old) guests.old }
-    requires there { (guest_of event.now).0 < length guests.old }
+// One event of a guest, over its device.
+fn answer<G: Gpu>(gpu: &mut G, guest: &mut Vgpu, here: [bool; 4], event: &Event) -> Reply
+    requires holds { Holds (G.state gpu.old) guest.old (is_here here) }
+    requires own { (guest_of event.now).0 ≡ number_of guest.old }
     requires kind { IsGuestEvent event.now }
-    ensures reply { result ≡ machine_reply (machine_in (G.state gpu.old) guests.old) event.now }
-    ensures ties { Ties (G.state gpu.new) guests.new }
-    ensures machine { machine_in (G.state gpu.new) guests.new ≡ machine_after (machine_in (G.state gpu.old) guests.old) event.now }
-    ensures ranges { all_ranges guests.new ≡ all_ranges guests.old }
-    ensures ran { RanNothing (G.state gpu.old) (G.state gpu.new) }
-    ensures live { (G.state gpu.new).live ≡ (G.state gpu.old).live }
+    ensures reply { result ≡ (answer (private_of (G.state gpu.old) guest.old (is_here here)) event.now).reply }
+    ensures device { private_of (G.state gpu.new) guest.new (is_here here) ≡ (answer (private_of (G.state gpu.old) guest.old (is_here here)) event.now).left }
+    ensures keeps { KeepsGuest (part_of guest.old) 1 (is_here here) (G.state gpu.old) (G.state gpu.new) guest.old guest.new }
 {
-    let guest = guest_of(event);
-    if let Event::Reset { .. } = event {
-        reset(gpu, guests, guest);
+    if let Event::Reset { guest: whose } = event {
+        guest.reset(gpu, here).unwrap();
         return Reply {
-            guest,
+            guest: *whose,
             answer: Answer::Nothing,
             irq: None,
             failsafe: None,
         };
     }
-    access(gpu, guests, guest, event)
+    guest.access(gpu, here, event).unwrap()
+}
+
+/// One event of a guest that is there: the reply is that of the machine, which is as after the
+/// event then.
+pub fn event<G: Gpu>(gpu: &mut G, guests: &mut [Vgpu], event: &Event) -> Reply
+    requires ties { Ties (G.state gpu.old) first_owner guests.old }
+    requires there { (guest_of event.now).0 < length guests.old }
+    requires kind { IsGuestEvent event.now }
+    ensures reply { result ≡ (answer (device_at (machine_in (G.state gpu.old) first_owner guests.old) (guest_of event.now).0) event.now).reply }
+    ensures ties { Ties (G.state gpu.new) first_owner guests.new }
+    ensures machine { machine_in (G.state gpu.new) first_owner guests.new
+        ≡ (input_course (machine_in (G.state gpu.old) first_owner guests.old) (one_event event.now)).left }
+    ensures ran { Ran (G.state gpu.old) (G.state gpu.new) (answer (device_at (machine_in (G.state gpu.old) first_owner guests.old) (guest_of event.now).0) event.now).ran }
+    ensures ranges { all_ranges guests.new ≡ all_ranges guests.old }
+    ensures live { (G.state gpu.new).live ≡ (G.state gpu.old).live }
+{
+    let guest = guest_of(event);
+    answer(gpu, &mut guests[guest.0 as usize], engines_of(guest), event)
 }

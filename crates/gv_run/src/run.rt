@@ -9,15 +9,17 @@ ghost use Rattle.std.specs.List.{AllByRecursion};
 ghost use Rattle.gv_balloon.specs.Shares.{next_ranges};
 ghost use Rattle.gv_vgpu.specs.Device.{new_device};
 ghost use Rattle.gv_vgpu.specs.Step.{guest_of};
-ghost use Rattle.gv_run.specs.Machine.{machine_after, writes_of, run_events, events_of, line_after, given_to, ranges_in};
-ghost use Rattle.gv_run.specs.Report.{irq_said, answer_said, told, events_said, words_said, memory_said, memories_said, ending_said};
-ghost use Rattle.gv_run.specs.Tied.{Ties, Agrees, RanNothing, IsGuestEvent, machine_in};
+ghost use Rattle.gv_gpu.specs.Change.{Ran, RanPart};
+ghost use Rattle.gv_run.specs.Course.{play};
+ghost use Rattle.gv_run.specs.Machine.{event as one_event, input_course, line_course, writes_of, ran_all};
+ghost use Rattle.gv_run.specs.Report.{irq_said, failsafe_said, answer_said, alarms_said, told, said_all, words_said, memory_said, memories_said, ending_said};
+ghost use Rattle.gv_run.specs.Tied.{Ties, Agrees, IsGuestEvent, first_owner, machine_in};
 
 use crate::machine;
 use gv_gpu::Gpu;
 use gv_guest::Memory;
 use gv_text::{Ending, Guest, Known, Line, ReportLine, print};
-use gv_types::{Answer, Event, GuestId, OutOfMemory, Place, Reply, Width};
+use gv_types::{Answer, Event, GuestId, OutOfMemory, Place, Reason, Reply, Width};
 use gv_vgpu::Vgpu;
 use std::alloc::Global;
 
@@ -41,6 +43,31 @@ fn tell_irq(report: &mut Vec<u8>, guest: GuestId, irq: Option<u32>) -> Result<()
         Some(value) => tell(report, &ReportLine::Irq { guest, value }),
         None => Ok(()),
     }
+}
+
+// Tells that the guest entered failsafe.
+#[tactic(auto, using(crate::proofs::Text::said_none))]
+fn tell_failsafe(
+    report: &mut Vec<u8>,
+    guest: GuestId,
+    failsafe: Option<Reason>,
+) -> Result<(), OutOfMemory>
+    requires { guest.0 < 8 }
+    ensures { OnOk result (report.new.items ≡ report.old.items ++ text_of (failsafe_said guest failsafe)) }
+{
+    match failsafe {
+        Some(reason) => tell(report, &ReportLine::Failsafe { guest, reason }),
+        None => Ok(()),
+    }
+}
+
+// Tells what happens beside an event's answer.
+fn tell_alarms(report: &mut Vec<u8>, reply: &Reply) -> Result<(), OutOfMemory>
+    requires { reply.now.guest.0 < 8 }
+    ensures { OnOk result (report.new.items ≡ report.old.items ++ text_of (alarms_said reply.now)) }
+{
+    tell_irq(report, reply.guest, reply.irq)?;
+    tell_failsafe(report, reply.guest, reply.failsafe)
 }
 
 // The event's own line, by its answer.
@@ -92,7 +119,7 @@ fn tell_reply(report: &mut Vec<u8>, event: &Event, reply: &Reply) -> Result<(), 
     requires { reply.now.guest.0 < 8 }
     ensures { OnOk result (report.new.items ≡ report.old.items ++ text_of (told event.now reply.now)) }
 {
-    tell_irq(report, reply.guest, reply.irq)?;
+    tell_alarms(report, reply)?;
     tell_answer(report, event, reply.guest, reply.answer)
 }
 
@@ -128,9 +155,9 @@ fn tell_memory<G: Gpu>(
 
 // Tells the memory of all guests, in order.
 fn tell_memories<G: Gpu>(report: &mut Vec<u8>, gpu: &G, guests: &[Vgpu]) -> Result<(), OutOfMemory>
-    requires ties { Ties (G.state gpu.now) guests.now }
+    requires ties { Ties (G.state gpu.now) first_owner guests.now }
     requires few { length guests.now ≤ 8 }
-    ensures { OnOk result (report.new.items ≡ report.old.items ++ text_of (memories_said 0 (machine_in (G.state gpu.now) guests.now))) }
+    ensures { OnOk result (report.new.items ≡ report.old.items ++ text_of (memories_said 0 (machine_in (G.state gpu.now) first_owner guests.now))) }
 {
     for (number, guest) in guests.iter().enumerate() {
         tell_memory(report, gpu, GuestId(number as u8), guest.memory())?;
@@ -167,11 +194,12 @@ impl Run {
         requires kind { IsGuestEvent event.now }
         ensures agrees { Agrees (G.state gpu.new) self.new.known self.new.guests.items }
         ensures known { self.new.known ≡ self.old.known }
-        ensures machine { machine_in (G.state gpu.new) self.new.guests.items
-            ≡ machine_after (machine_in (G.state gpu.old) self.old.guests.items) event.now }
+        ensures machine { machine_in (G.state gpu.new) first_owner self.new.guests.items
+            ≡ (input_course (machine_in (G.state gpu.old) first_owner self.old.guests.items) (one_event event.now)).left }
         ensures report { OnOk result (self.new.report.items ≡ self.old.report.items
-            ++ text_of (events_said (machine_in (G.state gpu.old) self.old.guests.items) (event.now ∷ []))) }
-        ensures ran { RanNothing (G.state gpu.old) (G.state gpu.new) }
+            ++ text_of (said_all (input_course (machine_in (G.state gpu.old) first_owner self.old.guests.items) (one_event event.now)).came)) }
+        ensures ran { Ran (G.state gpu.old) (G.state gpu.new)
+            (ran_all (input_course (machine_in (G.state gpu.old) first_owner self.old.guests.items) (one_event event.now)).came) }
     {
         let reply = machine::event(gpu, &mut self.guests, event);
         tell_reply(&mut self.report, event, &reply)
@@ -194,11 +222,14 @@ impl Run {
         requires fit { AllByRecursion (λ value. value < value_limit width) values.now }
         ensures agrees { Agrees (G.state gpu.new) self.new.known self.new.guests.items }
         ensures known { self.new.known ≡ self.old.known }
-        ensures machine { OnOk result (machine_in (G.state gpu.new) self.new.guests.items
-            ≡ run_events (machine_in (G.state gpu.old) self.old.guests.items) (writes_of guest place width at values.now)) }
+        ensures machine { OnOk result (machine_in (G.state gpu.new) first_owner self.new.guests.items
+            ≡ (play input_course (machine_in (G.state gpu.old) first_owner self.old.guests.items) (writes_of guest place width at values.now)).left) }
         ensures report { OnOk result (self.new.report.items ≡ self.old.report.items
-            ++ text_of (events_said (machine_in (G.state gpu.old) self.old.guests.items) (writes_of guest place width at values.now))) }
-        ensures ran { RanNothing (G.state gpu.old) (G.state gpu.new) }
+            ++ text_of (said_all (play input_course (machine_in (G.state gpu.old) first_owner self.old.guests.items) (writes_of guest place width at values.now)).came)) }
+        ensures ran { OnOk result (Ran (G.state gpu.old) (G.state gpu.new)
+            (ran_all (play input_course (machine_in (G.state gpu.old) first_owner self.old.guests.items) (writes_of guest place width at values.now)).came)) }
+        ensures part { RanPart (G.state gpu.old) (G.state gpu.new)
+            (ran_all (play input_course (machine_in (G.state gpu.old) first_owner self.old.guests.items) (writes_of guest place width at values.now)).came) }
     {
         for (index, value) in values.iter().enumerate() {
             let write = Event::Write {
@@ -226,10 +257,10 @@ impl Run {
         ensures agrees { OnOk result (Agrees (G.state gpu.new) (known_after self.old.known (GuestLine guest.now)) self.new.guests.items) }
         ensures known { self.new.known ≡ self.old.known }
         ensures report { self.new.report ≡ self.old.report }
-        ensures machine { OnOk result (machine_in (G.state gpu.new) self.new.guests.items
-            ≡ machine_in (G.state gpu.old) self.old.guests.items
+        ensures machine { OnOk result (machine_in (G.state gpu.new) first_owner self.new.guests.items
+            ≡ machine_in (G.state gpu.old) first_owner self.old.guests.items
             ++ new_device self.old.known.guests guest.now.frames (next_ranges self.old.known.given (want_of guest.now)) ∷ []) }
-        ensures ran { RanNothing (G.state gpu.old) (G.state gpu.new) }
+        ensures ran { Ran (G.state gpu.old) (G.state gpu.new) [] }
     {
         self.guests.reserve(1)?;
         let number = GuestId(self.known.guests);
@@ -247,11 +278,14 @@ impl Run {
         requires form { IsForm line.now }
         ensures agrees { OnOk result (Agrees (G.state gpu.new) (known_after self.old.known line.now) self.new.guests.items) }
         ensures known { self.new.known ≡ self.old.known }
-        ensures machine { OnOk result (machine_in (G.state gpu.new) self.new.guests.items
-            ≡ line_after (machine_in (G.state gpu.old) self.old.guests.items) line.now) }
+        ensures machine { OnOk result (machine_in (G.state gpu.new) first_owner self.new.guests.items
+            ≡ (line_course (machine_in (G.state gpu.old) first_owner self.old.guests.items) line.now).left) }
         ensures report { OnOk result (self.new.report.items ≡ self.old.report.items
-            ++ text_of (events_said (machine_in (G.state gpu.old) self.old.guests.items) (events_of line.now))) }
-        ensures ran { RanNothing (G.state gpu.old) (G.state gpu.new) }
+            ++ text_of (said_all (line_course (machine_in (G.state gpu.old) first_owner self.old.guests.items) line.now).came)) }
+        ensures ran { OnOk result (Ran (G.state gpu.old) (G.state gpu.new)
+            (ran_all (line_course (machine_in (G.state gpu.old) first_owner self.old.guests.items) line.now).came)) }
+        ensures part { RanPart (G.state gpu.old) (G.state gpu.new)
+            (ran_all (line_course (machine_in (G.state gpu.old) first_owner self.old.guests.items) line.now).came) }
     {
         match line {
             Line::Guest(guest) => self.guest(alloc, gpu, guest),
@@ -306,11 +340,14 @@ impl Run {
         requires form { IsForm line.now }
         ensures agrees { OnOk result (Agrees (G.state gpu.new) self.new.known self.new.guests.items) }
         ensures known { OnOk result (self.new.known ≡ known_after self.old.known line.now) }
-        ensures machine { OnOk result (machine_in (G.state gpu.new) self.new.guests.items
-            ≡ line_after (machine_in (G.state gpu.old) self.old.guests.items) line.now) }
+        ensures machine { OnOk result (machine_in (G.state gpu.new) first_owner self.new.guests.items
+            ≡ (line_course (machine_in (G.state gpu.old) first_owner self.old.guests.items) line.now).left) }
         ensures report { OnOk result (self.new.report.items ≡ self.old.report.items
-            ++ text_of (events_said (machine_in (G.state gpu.old) self.old.guests.items) (events_of line.now))) }
-        ensures ran { RanNothing (G.state gpu.old) (G.state gpu.new) }
+            ++ text_of (said_all (line_course (machine_in (G.state gpu.old) first_owner self.old.guests.items) line.now).came)) }
+        ensures ran { OnOk result (Ran (G.state gpu.old) (G.state gpu.new)
+            (ran_all (line_course (machine_in (G.state gpu.old) first_owner self.old.guests.items) line.now).came)) }
+        ensures part { RanPart (G.state gpu.old) (G.state gpu.new)
+            (ran_all (line_course (machine_in (G.state gpu.old) first_owner self.old.guests.items) line.now).came) }
     {
         self.act(alloc, gpu, line)?;
         self.known = self.known.after(line);
@@ -321,7 +358,7 @@ impl Run {
     pub fn finish<G: Gpu>(&mut self, gpu: &G, ending: Ending) -> Result<(), OutOfMemory>
         requires { Agrees (G.state gpu.now) self.old.known self.old.guests.items }
         ensures report { OnOk result (self.new.report.items ≡ self.old.report.items
-            ++ text_of (ending_said ending (machine_in (G.state gpu.now) self.old.guests.items))) }
+            ++ text_of (ending_said ending (machine_in (G.state gpu.now) first_owner self.old.guests.items))) }
     {
         match ending {
             Ending::Done => {

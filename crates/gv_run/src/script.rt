@@ -2,9 +2,10 @@ ghost use Rattle.std.specs.Prelude.{◌≡◌, ◌++◌, ◌^◌, ◌<◌, lengt
 ghost use Rattle.gv_gpu.specs.Device.{IsEmpty};
 ghost use Rattle.gv_text.specs.Report.{text_of};
 ghost use Rattle.gv_text.specs.Script.{script_in, script_of, script_limit, nothing_known};
-ghost use Rattle.gv_run.specs.Machine.{run_lines};
-ghost use Rattle.gv_run.specs.Report.{lines_said, script_said, report_of, ending_of, machine_of};
-ghost use Rattle.gv_run.specs.Tied.{Agrees, Keeps, RanNothing, machine_in};
+ghost use Rattle.gv_gpu.specs.Change.{Ran, RanPart};
+ghost use Rattle.gv_run.specs.Machine.{ran_all};
+ghost use Rattle.gv_run.specs.Report.{said_all, course_of, script_said, report_of, ending_of, machine_of, commands_in};
+ghost use Rattle.gv_run.specs.Tied.{Agrees, Keeps, first_owner, machine_in};
 
 use crate::run::Run;
 use gv_gpu::Gpu;
@@ -28,11 +29,14 @@ fn run_lines<G: Gpu>(
     requires short { length text.now < 2 ^ 63 }
     ensures agrees { OnOk result (Agrees (G.state gpu.new) run.new.known run.new.guests.items) }
     ensures ending { IfOk result (λ ending. ending ≡ (script_in whole text.now).ending) }
-    ensures machine { OnOk result (machine_in (G.state gpu.new) run.new.guests.items
-        ≡ run_lines (machine_in (G.state gpu.old) run.old.guests.items) (script_in whole text.now).lines) }
+    ensures machine { OnOk result (machine_in (G.state gpu.new) first_owner run.new.guests.items
+        ≡ (course_of (machine_in (G.state gpu.old) first_owner run.old.guests.items) (script_in whole text.now)).left) }
     ensures report { OnOk result (run.new.report.items ≡ run.old.report.items
-        ++ text_of (lines_said (machine_in (G.state gpu.old) run.old.guests.items) (script_in whole text.now).lines)) }
-    ensures ran { RanNothing (G.state gpu.old) (G.state gpu.new) }
+        ++ text_of (said_all (course_of (machine_in (G.state gpu.old) first_owner run.old.guests.items) (script_in whole text.now)).came)) }
+    ensures ran { OnOk result (Ran (G.state gpu.old) (G.state gpu.new)
+        (ran_all (course_of (machine_in (G.state gpu.old) first_owner run.old.guests.items) (script_in whole text.now)).came)) }
+    ensures part { RanPart (G.state gpu.old) (G.state gpu.new)
+        (ran_all (course_of (machine_in (G.state gpu.old) first_owner run.old.guests.items) (script_in whole text.now)).came) }
 {
     let mut rest = text;
     let mut number = 1u64;
@@ -72,8 +76,9 @@ fn run_text<G: Gpu>(
     requires short { length text.now < 2 ^ 63 }
     ensures report { IfOk result (λ f. f.report.items ≡ text_of (script_said [] (script_in whole text.now))) }
     ensures ending { IfOk result (λ f. f.ending ≡ (script_in whole text.now).ending) }
-    ensures pages { OnOk result (Keeps (G.state gpu.new) (run_lines [] (script_in whole text.now).lines)) }
-    ensures ran { RanNothing (G.state gpu.old) (G.state gpu.new) }
+    ensures pages { OnOk result (Keeps (G.state gpu.new) (course_of [] (script_in whole text.now)).left) }
+    ensures ran { OnOk result (Ran (G.state gpu.old) (G.state gpu.new) (ran_all (course_of [] (script_in whole text.now)).came)) }
+    ensures part { RanPart (G.state gpu.old) (G.state gpu.new) (ran_all (course_of [] (script_in whole text.now)).came) }
 {
     let mut run = Run::new(alloc);
     let ending = run_lines(alloc, gpu, &mut run, text, whole)?;
@@ -105,7 +110,8 @@ pub fn run_script<G: Gpu>(alloc: Global, gpu: &mut G, text: &[u8]) -> Result<Fin
     ensures report { IfOk result (λ f. f.report.items ≡ report_of text.now) }
     ensures ending { IfOk result (λ f. f.ending ≡ ending_of text.now) }
     ensures pages { OnOk result (Keeps (G.state gpu.new) (machine_of text.now)) }
-    ensures ran { RanNothing (G.state gpu.old) (G.state gpu.new) }
+    ensures ran { OnOk result (Ran (G.state gpu.old) (G.state gpu.new) (commands_in text.now)) }
+    ensures part { RanPart (G.state gpu.old) (G.state gpu.new) (commands_in text.now) }
 {
     let (front, whole) = judged(text, LIMIT);
     let finished = run_text(alloc, gpu, front, whole)?;

@@ -1,13 +1,13 @@
 use Rattle.std.proofs.Common.{◌≡◌, ◌+◌, ℕ, List, take, IfSome, ap, sym, ◌∙◌, subst}
 use Rattle.std.specs.Io.KnownBytes.{Appends}
 use Rattle.gv_text.specs.Script.{script_limit, script_limit-is}
-use Rattle.gv_gpu.specs.Device.{Device}
 use Rattle.gv_run.specs.Headline.{status_of}
 use Rattle.gv_run.specs.Report.{report_of}
 use Rattle.gv_run.specs.Tied.{Keeps}
-use Rattle.gv_run.proofs.Isolation.{private-report, commands_in-none}
+use Rattle.gv_run.proofs.Isolation.{private-report}
+use Rattle.gv_run.proofs.Journal.{journal-all, journal-part}
 use Rattle.gv_run.proofs.Statuses.{told_of_play}
-use Rattle.gv_run.proofs.Limit.{same_report, same_ending, same_machine}
+use Rattle.gv_run.proofs.Limit.{same_report, same_ending, same_machine, same_commands}
 use Rattle.gv_run.proofs.Source.{of_source}
 use Rattle.gv_run.proofs.call.mediate.Goals as goal
 
@@ -50,8 +50,16 @@ returns-in-Ok-clause-journal g c = λ told.
     let left = g.S.Source.left c.args.source.now in
     let text = c.deref.result.now in
     let read = subst (λ (t : List ℕ). IfSome left (λ bytes. t ≡ take (script_limit + 1) bytes)) (sym c.deref.ensures.value) c.in-Ok.ensures.ok in
+    of_source left text read (λ bytes is. journal-all c.requires.empty (c.play.ensures.ran told) ∙ same_commands text bytes is)
+
+pub returns-in-Ok-clause-journal_part : goal.returns-in-Ok-clause-journal_part
+returns-in-Ok-clause-journal_part g c =
+    let left = g.S.Source.left c.args.source.now in
+    let text = c.deref.result.now in
+    let read = subst (λ (t : List ℕ). IfSome left (λ bytes. t ≡ take (script_limit + 1) bytes)) (sym c.deref.ensures.value) c.in-Ok.ensures.ok in
     of_source left text read (λ bytes is.
-    c.play.ensures.ran.journal ∙ ap (λ (d : Device). d.journal) c.requires.empty ∙ sym (commands_in-none bytes))
+    let part = journal-part c.requires.empty c.play.ensures.ran_part in
+    (part.0, part.1 ∙ ap (take part.0) (same_commands text bytes is)))
 
 pub returns-in-Ok-clause-complete : goal.returns-in-Ok-clause-complete
 returns-in-Ok-clause-complete g c = λ command source sink found.

@@ -1,4 +1,4 @@
-use Rattle.gv_run.specs.Report.{irq_said, answer_said}
+use Rattle.gv_run.specs.Report.{alarms_said, answer_said}
 use Rattle.gv_run.proofs.Text.{said_twice, ok_then}
 use Rattle.gv_run.proofs.run.tell_reply.Goals as goal
 
@@ -6,5 +6,5 @@ pub returns : goal.returns
 returns c =
     let reply = c.args.reply.now in
     ok_then c.tell_answer.result
-    (said_twice c.args.report.now.items c.tell_irq.new.report.items c.tell_answer.new.report.items (irq_said reply.guest reply.irq) (answer_said c.args.event.now reply.guest reply.answer) c.in_ok-tell_irq.ensures)
+    (said_twice c.args.report.now.items c.tell_alarms.new.report.items c.tell_answer.new.report.items (alarms_said reply) (answer_said c.args.event.now reply.guest reply.answer) c.in_ok-tell_alarms.ensures)
     c.tell_answer.ensures

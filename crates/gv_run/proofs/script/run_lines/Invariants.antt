@@ -1,7 +1,7 @@
 use Rattle.std.proofs.Common.{◌+◌, ◌≤◌, length}
 use Rattle.gv_text.specs.Script.{script_in}
-use Rattle.gv_run.specs.Tied.{Agrees, RanNothing, machine_in}
-use Rattle.gv_run.proofs.Left.{Left, left_of}
+use Rattle.gv_run.specs.Tied.{Agrees, first_owner, machine_in}
+use Rattle.gv_run.proofs.Left.{LeftOf, left_of}
 use Rattle.gv_run.proofs.script.run_lines.Given as goal
 
 abbrev pub invariant-loop-bytes : goal.invariant-loop-bytes
@@ -10,8 +10,8 @@ invariant-loop-bytes g l =
     let start = g.G.Gpu.state l.fn.gpu in
     record {
       agrees : Agrees now l.run.known l.run.guests.items;
-      left : Left (machine_in start l.fn.run.guests.items) l.fn.run.report.items (script_in l.whole l.text) (machine_in now l.run.guests.items) l.run.report.items (left_of l.whole l.run.known l.number l.rest);
-      ran : RanNothing start now;
+      left : LeftOf (machine_in start first_owner l.fn.run.guests.items) l.fn.run.report.items start (script_in l.whole l.text)
+          (machine_in now first_owner l.run.guests.items) l.run.report.items now (left_of l.whole l.run.known l.number l.rest);
       numbered : l.number + length l.rest ≤ length l.text + 1;
     }
 

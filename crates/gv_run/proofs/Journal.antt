@@ -1,0 +1,21 @@
+-- The journal of a device that was empty, by what ran.
+use Rattle.std.proofs.Common.{◌≡◌, ℕ, List, [], ◌++◌, length, take, ap, sym, ◌∙◌}
+use Rattle.std.proofs.lemmas.Grind.{common_steps}
+use Rattle.std.proofs.Common.{arith}
+use Rattle.gv_gpu.specs.Change.{Ran, RanPart}
+use Rattle.gv_gpu.specs.Device.{Device, Entry, IsEmpty}
+
+pub journal-all : {d e : Device} {xs : List Entry} → IsEmpty d → Ran d e xs → e.journal ≡ xs
+journal-all {d} {e} {xs} empty ran = ran.journal ∙ ap (λ (z : List Entry). z ++ xs) (ap (λ (x : Device). x.journal) empty)
+
+-- a list is a front of itself with more behind it
+front : (xs ys : List Entry) → take (length xs) (xs ++ ys) ≡ xs
+front xs ys = grind (arith, common_steps)
+
+pub journal-part : {d e : Device} {xs : List Entry} → IsEmpty d → RanPart d e xs → (n : ℕ) × (e.journal ≡ take n xs)
+journal-part {d} {e} {xs} empty ran =
+    let part = ran.part in
+    (length part.done, journal-all empty part.ran ∙ sym (front part.done ran.left) ∙ ap (take (length part.done)) part.front)
+
+pub strays-none : {d e : Device} {xs : List Entry} → IsEmpty d → RanPart d e xs → e.strays ≡ 0
+strays-none empty ran = ran.part.ran.strays ∙ ap (λ (x : Device). x.strays) empty

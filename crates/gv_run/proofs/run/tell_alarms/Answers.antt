@@ -1,0 +1,10 @@
+use Rattle.gv_run.specs.Report.{irq_said, failsafe_said}
+use Rattle.gv_run.proofs.Text.{said_twice, ok_then}
+use Rattle.gv_run.proofs.run.tell_alarms.Goals as goal
+
+pub returns : goal.returns
+returns c =
+    let reply = c.args.reply.now in
+    ok_then c.tell_failsafe.result
+    (said_twice c.args.report.now.items c.tell_irq.new.report.items c.tell_failsafe.new.report.items (irq_said reply.guest reply.irq) (failsafe_said reply.guest reply.failsafe) c.in_ok-tell_irq.ensures)
+    c.tell_failsafe.ensures
