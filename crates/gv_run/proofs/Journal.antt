@@ -2,8 +2,10 @@
 use Rattle.std.proofs.Common.{◌≡◌, ℕ, List, [], ◌++◌, length, take, ap, sym, ◌∙◌}
 use Rattle.std.proofs.lemmas.Grind.{common_steps}
 use Rattle.std.proofs.Common.{arith}
+use Rattle.std.proofs.lemmas.List.{append-nil}
 use Rattle.gv_gpu.specs.Change.{Ran, RanPart}
 use Rattle.gv_gpu.specs.Device.{Device, Entry, IsEmpty}
+use Rattle.gv_gpu.specs.Part.{Part, outside}
 
 pub journal-all : {d e : Device} {xs : List Entry} → IsEmpty d → Ran d e xs → e.journal ≡ xs
 journal-all {d} {e} {xs} empty ran = ran.journal ∙ ap (λ (z : List Entry). z ++ xs) (ap (λ (x : Device). x.journal) empty)
@@ -19,3 +21,7 @@ journal-part {d} {e} {xs} empty ran =
 
 pub strays-none : {d e : Device} {xs : List Entry} → IsEmpty d → RanPart d e xs → e.strays ≡ 0
 strays-none empty ran = ran.part.ran.strays ∙ ap (λ (x : Device). x.strays) empty
+
+-- what changes a part alone runs nothing
+pub ran-outside : (p : Part) (d e : Device) → outside p e ≡ outside p d → Ran d e []
+ran-outside p d e same = record { journal = ap (λ (x : Device). x.journal) same ∙ sym (append-nil d.journal); strays = ap (λ (x : Device). x.strays) same }

@@ -13,6 +13,8 @@ use Rattle.gv_gpu.specs.Device.{Device, Entry}
 use Rattle.gv_run.specs.Course.{Course, onto}
 use Rattle.gv_run.specs.Machine.{Machine, Done as Came, line_course, ran_in, ran_all}
 use Rattle.gv_run.specs.Report.{said_of, said_all, course_of}
+use Rattle.gv_run.specs.Tied.{Plays, first_owner, machine_in}
+use Rattle.gv_run.specs.declared.run.Run.{Run}
 use Rattle.gv_run.proofs.Text.{said_more, said_none}
 
 -- the script from line number n on
@@ -53,6 +55,12 @@ all_left all before start = record {
   report = refl;
   ran = record { done = []; ran = record { journal = sym (append-nil start.journal); strays = refl }; front = refl };
 }
+
+-- the whole course was done
+pub record Over (all : Course Machine Came) (before : List ℕ) (start : Device) (m : Machine) (now : List ℕ) (d : Device) : Type 0 where
+  pub machine : m ≡ all.left
+  pub report : now ≡ before ++ text_of (said_all all.came)
+  pub ran : Ran start d (ran_all all.came)
 
 -- these commands ran, one after another
 ran_then : {d e f : Device} {xs ys : List Entry} → Ran d e xs → Ran e f ys → Ran d f (xs ++ ys)
@@ -97,17 +105,14 @@ module _ (all : Course Machine Came) (before : List ℕ) (start : Device) where
     left-part = record { left = ran_all c.came; part = kept.ran }
 
     -- nothing is left
-    module _ (m : Machine) (is : c ≡ record { left = m; came = [] }) where
-      pub over-machine : m ≡ all.left
-      over-machine = sym (ap (λ (c : Course Machine Came). c.left) is) ∙ kept.machine
-
-      pub over-report : now ≡ before ++ text_of (said_all all.came)
-      over-report = said_none now ∙ sym (ap (λ (c : Course Machine Came). now ++ text_of (said_all c.came)) is) ∙ kept.report
-
-      pub over-ran : Ran start d (ran_all all.came)
-      over-ran =
-          let whole : kept.ran.done ≡ ran_all all.came = sym (append-nil kept.ran.done) ∙ sym (ap (λ (c : Course Machine Came). kept.ran.done ++ ran_all c.came) is) ∙ kept.ran.front in
-          subst (Ran start d) whole kept.ran.ran
+    pub over : (m : Machine) → c ≡ record { left = m; came = [] } → Over all before start m now d
+    over m is =
+        let whole : kept.ran.done ≡ ran_all all.came = sym (append-nil kept.ran.done) ∙ sym (ap (λ (c : Course Machine Came). kept.ran.done ++ ran_all c.came) is) ∙ kept.ran.front in
+        record {
+          machine = sym (ap (λ (c : Course Machine Came). c.left) is) ∙ kept.machine;
+          report = said_none now ∙ sym (ap (λ (c : Course Machine Came). now ++ text_of (said_all c.came)) is) ∙ kept.report;
+          ran = subst (Ran start d) whole kept.ran.ran;
+        }
 
 -- what ran is all of it, as far as that goes
 pub ran-whole : {d e : Device} {xs : List Entry} → Ran d e xs → RanPart d e xs
@@ -135,14 +140,8 @@ module _ (m0 m : Machine) (before now : List ℕ) (start d : Device) (all left :
     pub end-ending : ending ≡ all.ending
     end-ending = sym (ap (λ (s : Script). s.ending) is) ∙ kept.ending
 
-    pub end-machine : m ≡ (course_of m0 all).left
-    end-machine = over-machine (course_of m0 all) before start (course_of m left) now d kept.course m none
-
-    pub end-report : now ≡ before ++ text_of (said_all (course_of m0 all).came)
-    end-report = over-report (course_of m0 all) before start (course_of m left) now d kept.course m none
-
-    pub end-ran : Ran start d (ran_all (course_of m0 all).came)
-    end-ran = over-ran (course_of m0 all) before start (course_of m left) now d kept.course m none
+    pub end-over : Over (course_of m0 all) before start m now d
+    end-over = over (course_of m0 all) before start (course_of m left) now d kept.course m none
 
   module _ (line : Line) (rest : Script) (is : left ≡ onto_script line rest) where
     first_left : Left (course_of m0 all) before start (onto (line_course m line) (course_of (line_course m line).left rest)) now d
@@ -157,3 +156,7 @@ module _ (m0 m : Machine) (before now : List ℕ) (start d : Device) (all left :
 
     pub line-began : (e : Device) → RanPart d e (ran_all (line_course m line).came) → RanPart start e (ran_all (course_of m0 all).came)
     line-began e part = stops_within (course_of m0 all) before start (line_course m line) (course_of (line_course m line).left rest) now d first_left e part
+
+-- nothing is to be done
+pub plays_none : (d : Device) (run : Run) → Plays (record { left = machine_in d first_owner run.guests.items; came = [] }) d run d run
+plays_none d run = record { machine = refl; report = said_none run.report.items; ran = record { journal = sym (append-nil d.journal); strays = refl } }

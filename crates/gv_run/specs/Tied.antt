@@ -1,20 +1,25 @@
 -- How the machine stands in the shared device.
-use Rattle.std.specs.Prelude.{◌≡◌, ◌≢◌, ℕ, ◌<◌, ◌≤◌, ◌==◌, ◌&&◌, nat_lt, List, Bool, true, false, Some, All, length, map, slice_index_or}
+use Rattle.std.specs.Prelude.{◌≡◌, ◌≢◌, ℕ, ◌++◌, ◌<◌, ◌≤◌, ◌==◌, ◌&&◌, nat_lt, List, Bool, true, false, Some, All, length, map, slice_index_or}
 use Rattle.gv_types.specs.declared.event.Event.{Event}
 use Rattle.gv_types.specs.declared.event.Event.TheVariants.{Reset}
 use Rattle.gv_types.specs.declared.ranges.Ranges.{Ranges}
 use Rattle.gv_entry.specs.Ranges.{owns_page}
 use Rattle.gv_balloon.specs.Shares.{AreAmong, AreApart}
+use Rattle.gv_gpu.specs.Change.{Ran}
 use Rattle.gv_gpu.specs.Device.{Device}
 use Rattle.gv_types.specs.declared.ids.Label.{Label}
 use Rattle.gv_gpu.specs.Part.{AreDisjoint}
 use Rattle.gv_guest.specs.Placed.{Stands, memory_in}
 use Rattle.gv_sggtt.specs.Mirror.{IsAbsent}
+use Rattle.gv_text.specs.Report.{text_of}
 use Rattle.gv_text.specs.declared.known.Known.{Known}
 use Rattle.gv_vgpu.specs.Access.{IsAccess}
 use Rattle.gv_vgpu.specs.Holds.{Holds, AreIdle, private_of, number_of, ranges_of}
 use Rattle.gv_vgpu.specs.declared.vgpu.Vgpu.{Vgpu}
-use Rattle.gv_run.specs.Machine.{Machine, device_at, given_to, no_ranges}
+use Rattle.gv_run.specs.Course.{Course}
+use Rattle.gv_run.specs.Machine.{Machine, Done, device_at, given_to, no_ranges, ran_all}
+use Rattle.gv_run.specs.Report.{said_all}
+use Rattle.gv_run.specs.declared.run.Run.{Run}
 
 -- no page of the global table is in the ranges of two guests
 abbrev pub AreAllApart : List Ranges → Type 0
@@ -64,3 +69,10 @@ pub record Agrees (d : Device) (known : Known) (guests : List Vgpu) : Type 0 whe
 -- words, and no other page that is labelled as a frame of the guest.
 abbrev pub Keeps : Device → Machine → Type 0
 Keeps d m = (g : ℕ) → g < length m → (pages : List ℕ) × Stands d (record { guest = g; pages = pages }) × (memory_in d (record { guest = g; pages = pages }) ≡ (device_at m g).memory)
+
+-- A course of the machine was run over the shared device: the guests stand for what it leaves, its lines stand at the
+-- report's end, and its commands ran.
+pub record Plays (c : Course Machine Done) (before : Device) (old : Run) (after : Device) (new : Run) : Type 0 where
+  pub machine : machine_in after first_owner new.guests.items ≡ c.left
+  pub report : new.report.items ≡ old.report.items ++ text_of (said_all c.came)
+  pub ran : Ran before after (ran_all c.came)

@@ -13,7 +13,7 @@ ghost use Rattle.gv_gpu.specs.Change.{Ran, RanPart};
 ghost use Rattle.gv_run.specs.Course.{play};
 ghost use Rattle.gv_run.specs.Machine.{event as one_event, input_course, line_course, writes_of, ran_all};
 ghost use Rattle.gv_run.specs.Report.{irq_said, failsafe_said, answer_said, alarms_said, told, said_all, words_said, memory_said, memories_said, ending_said};
-ghost use Rattle.gv_run.specs.Tied.{Ties, Agrees, IsGuestEvent, first_owner, machine_in};
+ghost use Rattle.gv_run.specs.Tied.{Ties, first_owner, machine_in};
 
 use crate::machine;
 use gv_gpu::Gpu;
@@ -174,6 +174,8 @@ pub struct Run {
 }
 
 impl Run {
+    ghost use Rattle.gv_run.specs.Tied.{Agrees, IsGuestEvent, Plays};
+
     /// Before the first line.
     pub fn new(alloc: Global) -> Run
         ensures known { result.known ≡ nothing_known }
@@ -194,10 +196,8 @@ impl Run {
         requires kind { IsGuestEvent event.now }
         ensures agrees { Agrees (G.state gpu.new) self.new.known self.new.guests.items }
         ensures known { self.new.known ≡ self.old.known }
-        ensures machine { machine_in (G.state gpu.new) first_owner self.new.guests.items
-            ≡ (input_course (machine_in (G.state gpu.old) first_owner self.old.guests.items) (one_event event.now)).left }
-        ensures report { OnOk result (self.new.report.items ≡ self.old.report.items
-            ++ text_of (said_all (input_course (machine_in (G.state gpu.old) first_owner self.old.guests.items) (one_event event.now)).came)) }
+        ensures done { OnOk result (Plays (input_course (machine_in (G.state gpu.old) first_owner self.old.guests.items) (one_event event.now))
+            (G.state gpu.old) self.old (G.state gpu.new) self.new) }
         ensures ran { Ran (G.state gpu.old) (G.state gpu.new)
             (ran_all (input_course (machine_in (G.state gpu.old) first_owner self.old.guests.items) (one_event event.now)).came) }
     {
@@ -222,12 +222,8 @@ impl Run {
         requires fit { AllByRecursion (λ value. value < value_limit width) values.now }
         ensures agrees { Agrees (G.state gpu.new) self.new.known self.new.guests.items }
         ensures known { self.new.known ≡ self.old.known }
-        ensures machine { OnOk result (machine_in (G.state gpu.new) first_owner self.new.guests.items
-            ≡ (play input_course (machine_in (G.state gpu.old) first_owner self.old.guests.items) (writes_of guest place width at values.now)).left) }
-        ensures report { OnOk result (self.new.report.items ≡ self.old.report.items
-            ++ text_of (said_all (play input_course (machine_in (G.state gpu.old) first_owner self.old.guests.items) (writes_of guest place width at values.now)).came)) }
-        ensures ran { OnOk result (Ran (G.state gpu.old) (G.state gpu.new)
-            (ran_all (play input_course (machine_in (G.state gpu.old) first_owner self.old.guests.items) (writes_of guest place width at values.now)).came)) }
+        ensures done { OnOk result (Plays (play input_course (machine_in (G.state gpu.old) first_owner self.old.guests.items) (writes_of guest place width at values.now))
+            (G.state gpu.old) self.old (G.state gpu.new) self.new) }
         ensures part { RanPart (G.state gpu.old) (G.state gpu.new)
             (ran_all (play input_course (machine_in (G.state gpu.old) first_owner self.old.guests.items) (writes_of guest place width at values.now)).came) }
     {
@@ -256,10 +252,8 @@ impl Run {
         requires some { 0 < guest.now.frames }
         ensures agrees { OnOk result (Agrees (G.state gpu.new) (known_after self.old.known (GuestLine guest.now)) self.new.guests.items) }
         ensures known { self.new.known ≡ self.old.known }
-        ensures report { self.new.report ≡ self.old.report }
-        ensures machine { OnOk result (machine_in (G.state gpu.new) first_owner self.new.guests.items
-            ≡ machine_in (G.state gpu.old) first_owner self.old.guests.items
-            ++ new_device self.old.known.guests guest.now.frames (next_ranges self.old.known.given (want_of guest.now)) ∷ []) }
+        ensures done { OnOk result (Plays (line_course (machine_in (G.state gpu.old) first_owner self.old.guests.items) (GuestLine guest.now))
+            (G.state gpu.old) self.old (G.state gpu.new) self.new) }
         ensures ran { Ran (G.state gpu.old) (G.state gpu.new) [] }
     {
         self.guests.reserve(1)?;
@@ -271,19 +265,15 @@ impl Run {
     }
 
     // Does what an accepted line says, before it counts as known.
-    #[tactic(auto, using(crate::proofs::Text::said_none, crate::proofs::Agreed::agrees_begun))]
+    #[tactic(auto, using(crate::proofs::Agreed::agrees_begun))]
     fn act<G: Gpu>(&mut self, alloc: Global, gpu: &mut G, line: &Line) -> Result<(), OutOfMemory>
         requires agrees { Agrees (G.state gpu.old) self.old.known self.old.guests.items }
         requires accepted { accepts self.old.known line.now ≡ true }
         requires form { IsForm line.now }
         ensures agrees { OnOk result (Agrees (G.state gpu.new) (known_after self.old.known line.now) self.new.guests.items) }
         ensures known { self.new.known ≡ self.old.known }
-        ensures machine { OnOk result (machine_in (G.state gpu.new) first_owner self.new.guests.items
-            ≡ (line_course (machine_in (G.state gpu.old) first_owner self.old.guests.items) line.now).left) }
-        ensures report { OnOk result (self.new.report.items ≡ self.old.report.items
-            ++ text_of (said_all (line_course (machine_in (G.state gpu.old) first_owner self.old.guests.items) line.now).came)) }
-        ensures ran { OnOk result (Ran (G.state gpu.old) (G.state gpu.new)
-            (ran_all (line_course (machine_in (G.state gpu.old) first_owner self.old.guests.items) line.now).came)) }
+        ensures done { OnOk result (Plays (line_course (machine_in (G.state gpu.old) first_owner self.old.guests.items) line.now)
+            (G.state gpu.old) self.old (G.state gpu.new) self.new) }
         ensures part { RanPart (G.state gpu.old) (G.state gpu.new)
             (ran_all (line_course (machine_in (G.state gpu.old) first_owner self.old.guests.items) line.now).came) }
     {
@@ -340,12 +330,8 @@ impl Run {
         requires form { IsForm line.now }
         ensures agrees { OnOk result (Agrees (G.state gpu.new) self.new.known self.new.guests.items) }
         ensures known { OnOk result (self.new.known ≡ known_after self.old.known line.now) }
-        ensures machine { OnOk result (machine_in (G.state gpu.new) first_owner self.new.guests.items
-            ≡ (line_course (machine_in (G.state gpu.old) first_owner self.old.guests.items) line.now).left) }
-        ensures report { OnOk result (self.new.report.items ≡ self.old.report.items
-            ++ text_of (said_all (line_course (machine_in (G.state gpu.old) first_owner self.old.guests.items) line.now).came)) }
-        ensures ran { OnOk result (Ran (G.state gpu.old) (G.state gpu.new)
-            (ran_all (line_course (machine_in (G.state gpu.old) first_owner self.old.guests.items) line.now).came)) }
+        ensures done { OnOk result (Plays (line_course (machine_in (G.state gpu.old) first_owner self.old.guests.items) line.now)
+            (G.state gpu.old) self.old (G.state gpu.new) self.new) }
         ensures part { RanPart (G.state gpu.old) (G.state gpu.new)
             (ran_all (line_course (machine_in (G.state gpu.old) first_owner self.old.guests.items) line.now).came) }
     {

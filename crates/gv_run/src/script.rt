@@ -4,8 +4,8 @@ ghost use Rattle.gv_text.specs.Report.{text_of};
 ghost use Rattle.gv_text.specs.Script.{script_in, script_of, script_limit, nothing_known};
 ghost use Rattle.gv_gpu.specs.Change.{Ran, RanPart};
 ghost use Rattle.gv_run.specs.Machine.{ran_all};
-ghost use Rattle.gv_run.specs.Report.{said_all, course_of, script_said, report_of, ending_of, machine_of, commands_in};
-ghost use Rattle.gv_run.specs.Tied.{Agrees, Keeps, first_owner, machine_in};
+ghost use Rattle.gv_run.specs.Report.{course_of, script_said, report_of, ending_of, machine_of, commands_in};
+ghost use Rattle.gv_run.specs.Tied.{Agrees, Keeps, Plays, first_owner, machine_in};
 
 use crate::run::Run;
 use gv_gpu::Gpu;
@@ -29,12 +29,8 @@ fn run_lines<G: Gpu>(
     requires short { length text.now < 2 ^ 63 }
     ensures agrees { OnOk result (Agrees (G.state gpu.new) run.new.known run.new.guests.items) }
     ensures ending { IfOk result (λ ending. ending ≡ (script_in whole text.now).ending) }
-    ensures machine { OnOk result (machine_in (G.state gpu.new) first_owner run.new.guests.items
-        ≡ (course_of (machine_in (G.state gpu.old) first_owner run.old.guests.items) (script_in whole text.now)).left) }
-    ensures report { OnOk result (run.new.report.items ≡ run.old.report.items
-        ++ text_of (said_all (course_of (machine_in (G.state gpu.old) first_owner run.old.guests.items) (script_in whole text.now)).came)) }
-    ensures ran { OnOk result (Ran (G.state gpu.old) (G.state gpu.new)
-        (ran_all (course_of (machine_in (G.state gpu.old) first_owner run.old.guests.items) (script_in whole text.now)).came)) }
+    ensures done { OnOk result (Plays (course_of (machine_in (G.state gpu.old) first_owner run.old.guests.items) (script_in whole text.now))
+        (G.state gpu.old) run.old (G.state gpu.new) run.new) }
     ensures part { RanPart (G.state gpu.old) (G.state gpu.new)
         (ran_all (course_of (machine_in (G.state gpu.old) first_owner run.old.guests.items) (script_in whole text.now)).came) }
 {

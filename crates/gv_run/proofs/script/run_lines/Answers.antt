@@ -3,7 +3,7 @@ use Rattle.gv_text.specs.Script.{script_in, missing}
 use Rattle.gv_text.specs.declared.known.Known.{Known}
 use Rattle.gv_text.specs.declared.ending.Ending.TheVariants.{Done, BadScript}
 use Rattle.gv_run.specs.Tied.{first_owner, machine_in}
-use Rattle.gv_run.proofs.Left.{LeftOf, left_of, left_refused, left_ended, left_line, left_missing, whole_left, end-machine, end-report, end-ran, line-done, line-began, left-part}
+use Rattle.gv_run.proofs.Left.{LeftOf, left_of, left_refused, left_ended, left_line, left_missing, whole_left, end-over, line-done, line-began, left-part}
 use Rattle.gv_run.proofs.script.run_lines.Goals as goal
 
 pub loop-bytes-init : goal.loop-bytes-init
@@ -19,113 +19,51 @@ loop-bytes-init g c =
     }
 
 
-pub returns-in_default-accepted-clause-report : goal.returns-in_default-accepted-clause-report
-returns-in_default-accepted-clause-report g c =
+pub returns-in_default-accepted-clause-done : goal.returns-in_default-accepted-clause-done
+returns-in_default-accepted-clause-done g c =
     let run = c.loop-bytes.run in
     let n = c.loop-bytes.number in
     let rest = c.loop-bytes.rest.now in
     let is = left_refused c.args.whole run.known n rest c.in-Some.bytes.now c.in-Some.after.now c.in-Some.ensures.lines (sym c.accepted.ensures.value ∙ c.in_default-accepted.is) in
-    end-report _ (machine_in (g.G.Gpu.state c.loop-bytes.gpu) first_owner run.guests.items) c.args.run.now.report.items run.report.items _ _ _ (left_of c.args.whole run.known n rest) c.loop-bytes.invariant.left (BadScript n) is
-
-pub returns-in_default-accepted-clause-machine : goal.returns-in_default-accepted-clause-machine
-returns-in_default-accepted-clause-machine g c =
-    let run = c.loop-bytes.run in
-    let n = c.loop-bytes.number in
-    let rest = c.loop-bytes.rest.now in
-    let is = left_refused c.args.whole run.known n rest c.in-Some.bytes.now c.in-Some.after.now c.in-Some.ensures.lines (sym c.accepted.ensures.value ∙ c.in_default-accepted.is) in
-    end-machine _ (machine_in (g.G.Gpu.state c.loop-bytes.gpu) first_owner run.guests.items) c.args.run.now.report.items run.report.items _ _ _ (left_of c.args.whole run.known n rest) c.loop-bytes.invariant.left (BadScript n) is
-
-pub returns-in_default-accepted-clause-ran : goal.returns-in_default-accepted-clause-ran
-returns-in_default-accepted-clause-ran g c =
-    let run = c.loop-bytes.run in
-    let n = c.loop-bytes.number in
-    let rest = c.loop-bytes.rest.now in
-    let is = left_refused c.args.whole run.known n rest c.in-Some.bytes.now c.in-Some.after.now c.in-Some.ensures.lines (sym c.accepted.ensures.value ∙ c.in_default-accepted.is) in
-    end-ran _ (machine_in (g.G.Gpu.state c.loop-bytes.gpu) first_owner run.guests.items) c.args.run.now.report.items run.report.items _ _ _ (left_of c.args.whole run.known n rest) c.loop-bytes.invariant.left (BadScript n) is
+    let all = end-over _ (machine_in (g.G.Gpu.state c.loop-bytes.gpu) first_owner run.guests.items) c.args.run.now.report.items run.report.items _ _ _ (left_of c.args.whole run.known n rest) c.loop-bytes.invariant.left (BadScript n) is in
+    record { machine = all.machine; report = all.report; ran = all.ran }
 
 pub returns-in_default-accepted-clause-part : goal.returns-in_default-accepted-clause-part
 returns-in_default-accepted-clause-part g c = left-part _ _ _ _ c.loop-bytes.run.report.items (g.G.Gpu.state c.loop-bytes.gpu) c.loop-bytes.invariant.left.course
 
-pub returns-then-is_end-clause-report : goal.returns-then-is_end-clause-report
-returns-then-is_end-clause-report g c =
+pub returns-then-is_end-clause-done : goal.returns-then-is_end-clause-done
+returns-then-is_end-clause-done g c =
     let run = c.loop-bytes.run in
     let n = c.loop-bytes.number in
     let rest = c.loop-bytes.rest.now in
     let is = left_ended c.args.whole run.known n rest c.in-Some.bytes.now c.in-Some.after.now c.in-Some.ensures.lines c.in-Some-accepted.line
     (sym c.accepted.ensures.value ∙ c.in-Some-accepted.is) (sym c.is_end.ensures ∙ c.if-is_end.true) in
-    end-report _ (machine_in (g.G.Gpu.state c.loop-bytes.gpu) first_owner run.guests.items) c.args.run.now.report.items run.report.items _ _ _ (left_of c.args.whole run.known n rest) c.loop-bytes.invariant.left Done is
-
-pub returns-then-is_end-clause-machine : goal.returns-then-is_end-clause-machine
-returns-then-is_end-clause-machine g c =
-    let run = c.loop-bytes.run in
-    let n = c.loop-bytes.number in
-    let rest = c.loop-bytes.rest.now in
-    let is = left_ended c.args.whole run.known n rest c.in-Some.bytes.now c.in-Some.after.now c.in-Some.ensures.lines c.in-Some-accepted.line
-    (sym c.accepted.ensures.value ∙ c.in-Some-accepted.is) (sym c.is_end.ensures ∙ c.if-is_end.true) in
-    end-machine _ (machine_in (g.G.Gpu.state c.loop-bytes.gpu) first_owner run.guests.items) c.args.run.now.report.items run.report.items _ _ _ (left_of c.args.whole run.known n rest) c.loop-bytes.invariant.left Done is
-
-pub returns-then-is_end-clause-ran : goal.returns-then-is_end-clause-ran
-returns-then-is_end-clause-ran g c =
-    let run = c.loop-bytes.run in
-    let n = c.loop-bytes.number in
-    let rest = c.loop-bytes.rest.now in
-    let is = left_ended c.args.whole run.known n rest c.in-Some.bytes.now c.in-Some.after.now c.in-Some.ensures.lines c.in-Some-accepted.line
-    (sym c.accepted.ensures.value ∙ c.in-Some-accepted.is) (sym c.is_end.ensures ∙ c.if-is_end.true) in
-    end-ran _ (machine_in (g.G.Gpu.state c.loop-bytes.gpu) first_owner run.guests.items) c.args.run.now.report.items run.report.items _ _ _ (left_of c.args.whole run.known n rest) c.loop-bytes.invariant.left Done is
+    let all = end-over _ (machine_in (g.G.Gpu.state c.loop-bytes.gpu) first_owner run.guests.items) c.args.run.now.report.items run.report.items _ _ _ (left_of c.args.whole run.known n rest) c.loop-bytes.invariant.left Done is in
+    record { machine = all.machine; report = all.report; ran = all.ran }
 
 pub returns-then-is_end-clause-part : goal.returns-then-is_end-clause-part
 returns-then-is_end-clause-part g c = left-part _ _ _ _ c.loop-bytes.run.report.items (g.G.Gpu.state c.loop-bytes.gpu) c.loop-bytes.invariant.left.course
 
-pub returns-then-whole-clause-report : goal.returns-then-whole-clause-report
-returns-then-whole-clause-report g c =
+pub returns-then-whole-clause-done : goal.returns-then-whole-clause-done
+returns-then-whole-clause-done g c =
     let run = c.loop-bytes.run in
     let n = c.loop-bytes.number in
     let rest = c.loop-bytes.rest.now in
     let is = left_missing c.args.whole run.known n rest (c.in_default.ensures.none.0 refl) in
-    end-report _ (machine_in (g.G.Gpu.state c.loop-bytes.gpu) first_owner run.guests.items) c.args.run.now.report.items run.report.items _ _ _ (left_of c.args.whole run.known n rest) c.loop-bytes.invariant.left (missing c.args.whole n) is
-
-pub returns-then-whole-clause-machine : goal.returns-then-whole-clause-machine
-returns-then-whole-clause-machine g c =
-    let run = c.loop-bytes.run in
-    let n = c.loop-bytes.number in
-    let rest = c.loop-bytes.rest.now in
-    let is = left_missing c.args.whole run.known n rest (c.in_default.ensures.none.0 refl) in
-    end-machine _ (machine_in (g.G.Gpu.state c.loop-bytes.gpu) first_owner run.guests.items) c.args.run.now.report.items run.report.items _ _ _ (left_of c.args.whole run.known n rest) c.loop-bytes.invariant.left (missing c.args.whole n) is
-
-pub returns-then-whole-clause-ran : goal.returns-then-whole-clause-ran
-returns-then-whole-clause-ran g c =
-    let run = c.loop-bytes.run in
-    let n = c.loop-bytes.number in
-    let rest = c.loop-bytes.rest.now in
-    let is = left_missing c.args.whole run.known n rest (c.in_default.ensures.none.0 refl) in
-    end-ran _ (machine_in (g.G.Gpu.state c.loop-bytes.gpu) first_owner run.guests.items) c.args.run.now.report.items run.report.items _ _ _ (left_of c.args.whole run.known n rest) c.loop-bytes.invariant.left (missing c.args.whole n) is
+    let all = end-over _ (machine_in (g.G.Gpu.state c.loop-bytes.gpu) first_owner run.guests.items) c.args.run.now.report.items run.report.items _ _ _ (left_of c.args.whole run.known n rest) c.loop-bytes.invariant.left (missing c.args.whole n) is in
+    record { machine = all.machine; report = all.report; ran = all.ran }
 
 pub returns-then-whole-clause-part : goal.returns-then-whole-clause-part
 returns-then-whole-clause-part g c = left-part _ _ _ _ c.loop-bytes.run.report.items (g.G.Gpu.state c.loop-bytes.gpu) c.loop-bytes.invariant.left.course
 
-pub returns-else-whole-clause-report : goal.returns-else-whole-clause-report
-returns-else-whole-clause-report g c =
+pub returns-else-whole-clause-done : goal.returns-else-whole-clause-done
+returns-else-whole-clause-done g c =
     let run = c.loop-bytes.run in
     let n = c.loop-bytes.number in
     let rest = c.loop-bytes.rest.now in
     let is = left_missing c.args.whole run.known n rest (c.in_default.ensures.none.0 refl) in
-    end-report _ (machine_in (g.G.Gpu.state c.loop-bytes.gpu) first_owner run.guests.items) c.args.run.now.report.items run.report.items _ _ _ (left_of c.args.whole run.known n rest) c.loop-bytes.invariant.left (missing c.args.whole n) is
-
-pub returns-else-whole-clause-machine : goal.returns-else-whole-clause-machine
-returns-else-whole-clause-machine g c =
-    let run = c.loop-bytes.run in
-    let n = c.loop-bytes.number in
-    let rest = c.loop-bytes.rest.now in
-    let is = left_missing c.args.whole run.known n rest (c.in_default.ensures.none.0 refl) in
-    end-machine _ (machine_in (g.G.Gpu.state c.loop-bytes.gpu) first_owner run.guests.items) c.args.run.now.report.items run.report.items _ _ _ (left_of c.args.whole run.known n rest) c.loop-bytes.invariant.left (missing c.args.whole n) is
-
-pub returns-else-whole-clause-ran : goal.returns-else-whole-clause-ran
-returns-else-whole-clause-ran g c =
-    let run = c.loop-bytes.run in
-    let n = c.loop-bytes.number in
-    let rest = c.loop-bytes.rest.now in
-    let is = left_missing c.args.whole run.known n rest (c.in_default.ensures.none.0 refl) in
-    end-ran _ (machine_in (g.G.Gpu.state c.loop-bytes.gpu) first_owner run.guests.items) c.args.run.now.report.items run.report.items _ _ _ (left_of c.args.whole run.known n rest) c.loop-bytes.invariant.left (missing c.args.whole n) is
+    let all = end-over _ (machine_in (g.G.Gpu.state c.loop-bytes.gpu) first_owner run.guests.items) c.args.run.now.report.items run.report.items _ _ _ (left_of c.args.whole run.known n rest) c.loop-bytes.invariant.left (missing c.args.whole n) is in
+    record { machine = all.machine; report = all.report; ran = all.ran }
 
 pub returns-else-whole-clause-part : goal.returns-else-whole-clause-part
 returns-else-whole-clause-part g c = left-part _ _ _ _ c.loop-bytes.run.report.items (g.G.Gpu.state c.loop-bytes.gpu) c.loop-bytes.invariant.left.course
@@ -149,7 +87,7 @@ loop-bytes-preserved g c =
     let after = c.in-Some.after.now in
     let is = left_line c.args.whole run.known n rest c.in-Some.bytes.now after c.in-Some.ensures.lines line
     (sym c.accepted.ensures.value ∙ c.in-Some-accepted.is) (sym c.is_end.ensures ∙ c.if-is_end.false) in
-    let on = line-done m0 m before run.report.items start d all (left_of c.args.whole run.known n rest) kept.left line _ is next c.line.new.self.report.items e done.machine done.report done.ran in
+    let on = line-done m0 m before run.report.items start d all (left_of c.args.whole run.known n rest) kept.left line _ is next c.line.new.self.report.items e done.done.machine done.done.report done.done.ran in
     record {
       agrees = done.agrees;
       left = subst (λ (known : Known). LeftOf m0 before start all next c.line.new.self.report.items e (left_of c.args.whole known (n + 1) after)) (sym done.known) on;

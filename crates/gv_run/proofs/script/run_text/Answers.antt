@@ -18,9 +18,9 @@ returns-clause-report g c =
     let ran = c.in_ok-ending.ensures in
     let whole = course_of [] all in
     let none : machine_in d first_owner c.new-run.result.guests.items ≡ [] = ap (machine_in d first_owner) c.new-run.ensures.guests in
-    let machine : machine_in e first_owner c.run_lines.new.run.guests.items ≡ whole.left = ran.machine ∙ ap (λ (m : Machine). (course_of m all).left) none in
+    let machine : machine_in e first_owner c.run_lines.new.run.guests.items ≡ whole.left = ran.done.machine ∙ ap (λ (m : Machine). (course_of m all).left) none in
     let first : c.run_lines.new.run.report.items ≡ [] ++ text_of (said_all whole.came) =
-    ran.report ∙ ap (λ (m : Machine). c.new-run.result.report.items ++ text_of (said_all (course_of m all).came)) none
+    ran.done.report ∙ ap (λ (m : Machine). c.new-run.result.report.items ++ text_of (said_all (course_of m all).came)) none
     ∙ ap (λ (before : List ℕ). before ++ text_of (said_all whole.came)) c.new-run.ensures.report in
     let last : c.finish.new.self.report.items ≡ c.run_lines.new.run.report.items ++ text_of (ending_said all.ending whole.left) =
     c.in_ok-finish.ensures.report
@@ -36,7 +36,7 @@ returns-clause-pages g c =
     let ran = c.in_ok-ending.ensures in
     let guests = c.run_lines.new.run.guests.items in
     let none : machine_in d first_owner c.new-run.result.guests.items ≡ [] = ap (machine_in d first_owner) c.new-run.ensures.guests in
-    let machine : machine_in e first_owner guests ≡ (course_of [] all).left = ran.machine ∙ ap (λ (m : Machine). (course_of m all).left) none in
+    let machine : machine_in e first_owner guests ≡ (course_of [] all).left = ran.done.machine ∙ ap (λ (m : Machine). (course_of m all).left) none in
     subst (Keeps e) machine (keeps-ties e first_owner guests ran.agrees.ties)
 
 
@@ -45,7 +45,7 @@ returns-clause-ran g c =
     let all = script_in c.args.whole c.args.text.now in
     let d = g.G.Gpu.state c.args.gpu.now in
     let none : machine_in d first_owner c.new-run.result.guests.items ≡ [] = ap (machine_in d first_owner) c.new-run.ensures.guests in
-    subst (λ (m : Machine). Ran d (g.G.Gpu.state c.run_lines.new.gpu) (ran_all (course_of m all).came)) none c.in_ok-ending.ensures.ran
+    subst (λ (m : Machine). Ran d (g.G.Gpu.state c.run_lines.new.gpu) (ran_all (course_of m all).came)) none c.in_ok-ending.ensures.done.ran
 
 pub returns-clause-part : goal.returns-clause-part
 returns-clause-part g c =

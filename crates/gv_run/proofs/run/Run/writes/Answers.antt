@@ -8,7 +8,7 @@ use Rattle.gv_run.specs.Course.{Course, onto, play}
 use Rattle.gv_run.specs.Machine.{Machine, Input, Done, event, input_course, writes_of, ran_all}
 use Rattle.gv_run.specs.Report.{said_all}
 use Rattle.gv_run.specs.Tied.{first_owner, machine_in}
-use Rattle.gv_run.proofs.Left.{Left, goes_on, stops_within, ran-whole, over-machine, over-report, over-ran, left-part}
+use Rattle.gv_run.proofs.Left.{Left, goes_on, stops_within, ran-whole, over, left-part}
 use Rattle.gv_run.proofs.Values.{write_first}
 use Rattle.gv_run.proofs.run.Run.writes.Goals as goal
 
@@ -30,8 +30,8 @@ loop-index-preserved g c =
     let write_at = λ (bytes : ℕ). event (Write c.args.guest c.args.place c.args.width (c.args.at + bytes * i) (get_or values i 0)) in
     let first = input_course m (write_at (bytes_of c.args.width)) in
     let done = c.in_ok-event.ensures in
-    let moved : after ≡ first.left = done.machine ∙ ap (λ b. (input_course m (write_at b)).left) c.bytes.ensures in
-    let told : later ≡ now ++ text_of (said_all first.came) = done.report ∙ ap (λ b. now ++ text_of (said_all (input_course m (write_at b)).came)) c.bytes.ensures in
+    let moved : after ≡ first.left = done.done.machine ∙ ap (λ b. (input_course m (write_at b)).left) c.bytes.ensures in
+    let told : later ≡ now ++ text_of (said_all first.came) = done.done.report ∙ ap (λ b. now ++ text_of (said_all (input_course m (write_at b)).came)) c.bytes.ensures in
     let ran = subst (λ b. Ran d e (ran_all (input_course m (write_at b)).came)) c.bytes.ensures done.ran in
     let left = subst (λ (x : Course Machine Done). Left all before start x now d) (write_first c.args.guest c.args.place c.args.width c.args.at values i (omega arith) m) kept.left in
     record {
@@ -41,32 +41,15 @@ loop-index-preserved g c =
           (goes_on all before start first (play input_course first.left rest) now d left later e told ran);
     }
 
-pub returns-clause-report : goal.returns-clause-report
-returns-clause-report g c =
+pub returns-clause-done : goal.returns-clause-done
+returns-clause-done g c =
     let kept = c.loop-index.invariant in
     let d = g.G.Gpu.state c.loop-index.gpu in
     let m = machine_in d first_owner c.loop-index.self.guests.items in
     let at = c.args.at + bytes_of c.args.width * c.loop-index.index in
     let none = drop_all c.loop-index.index c.args.values.now (omega arith) in
-    over-report _ _ _ _ c.loop-index.self.report.items d kept.left m (ap (λ values. play input_course m (writes_of c.args.guest c.args.place c.args.width at values)) none)
-
-pub returns-clause-ran : goal.returns-clause-ran
-returns-clause-ran g c =
-    let kept = c.loop-index.invariant in
-    let d = g.G.Gpu.state c.loop-index.gpu in
-    let m = machine_in d first_owner c.loop-index.self.guests.items in
-    let at = c.args.at + bytes_of c.args.width * c.loop-index.index in
-    let none = drop_all c.loop-index.index c.args.values.now (omega arith) in
-    over-ran _ _ _ _ c.loop-index.self.report.items d kept.left m (ap (λ values. play input_course m (writes_of c.args.guest c.args.place c.args.width at values)) none)
-
-pub returns-clause-machine : goal.returns-clause-machine
-returns-clause-machine g c =
-    let kept = c.loop-index.invariant in
-    let d = g.G.Gpu.state c.loop-index.gpu in
-    let m = machine_in d first_owner c.loop-index.self.guests.items in
-    let at = c.args.at + bytes_of c.args.width * c.loop-index.index in
-    let none = drop_all c.loop-index.index c.args.values.now (omega arith) in
-    over-machine _ _ _ _ c.loop-index.self.report.items d kept.left m (ap (λ values. play input_course m (writes_of c.args.guest c.args.place c.args.width at values)) none)
+    let all = over _ _ _ _ c.loop-index.self.report.items d kept.left m (ap (λ values. play input_course m (writes_of c.args.guest c.args.place c.args.width at values)) none) in
+    record { machine = all.machine; report = all.report; ran = all.ran }
 
 pub returns-clause-part : goal.returns-clause-part
 returns-clause-part g c = left-part _ _ _ _ c.loop-index.self.report.items (g.G.Gpu.state c.loop-index.gpu) c.loop-index.invariant.left
