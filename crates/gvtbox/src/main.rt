@@ -2,6 +2,11 @@
 //! script's report to standard output. Its exit status says how that went.
 #![tactic(auto)]
 
+#[cfg(test)]
+mod layers;
+#[cfg(test)]
+mod rows;
+
 use gv_engine::SoftGpu;
 use gv_outside::{StdSink, StdSource};
 use gv_run::{Status, mediate};

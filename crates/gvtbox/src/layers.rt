@@ -1,0 +1,73 @@
+//! A guest's memory and its global table, over the device in memory.
+ghost use Rattle.std.specs.Prelude.{◌≡◌, IfOk, length};
+ghost use Rattle.gv_guest.specs.Placed.{Stands};
+ghost use Rattle.gv_sggtt.specs.Mirror.{Mirrors};
+
+use gv_engine::SoftGpu;
+use gv_gpu::Gpu;
+use gv_guest::Memory;
+use gv_sggtt::GlobalTable;
+use gv_types::{GuestId, OutOfMemory, Ranges, Span, Width};
+use std::alloc::Global;
+use std::test::Fail;
+
+// A guest with two frames, two low pages from page 4 on, and one high page.
+const RANGES: Ranges = Ranges {
+    low: Span { first: 4, pages: 2 },
+    high: Span {
+        first: 65_536,
+        pages: 1,
+    },
+};
+
+fn guest(alloc: Global) -> Result<(SoftGpu, Memory, GlobalTable), OutOfMemory>
+    ensures stands { IfOk result (λ made. Stands (⟦<SoftGpu as Gpu>⟧.state made.0) made.1) }
+    ensures frames { IfOk result (λ made. length made.1.pages ≡ made.2.frames) }
+    ensures mirrors { IfOk result (λ made. Mirrors (⟦<SoftGpu as Gpu>⟧.state made.0) made.2 made.1) }
+{
+    let mut gpu = SoftGpu::new(alloc);
+    let memory = Memory::new(alloc, &mut gpu, GuestId(0), 2)?;
+    let table = GlobalTable::new(alloc, RANGES, 2)?;
+    Ok((gpu, memory, table))
+}
+
+#[test]
+fn entries_of_two_ranges(rt: HostRuntime) -> Result<(), Fail> {
+    let (mut gpu, memory, mut table) = guest(rt.alloc())?;
+    table.write_entry(&mut gpu, &memory, 3, 0x1001);
+    table.write_entry(&mut gpu, &memory, 5, 0x1001);
+    table.write_entry(&mut gpu, &memory, 65_536, 0x2001);
+    for (page, entry, frame) in [
+        (3, 0, None),
+        (4, 0, None),
+        (5, 0x1001, Some(1)),
+        (6, 0, None),
+        (65_536, 0x2001, None),
+    ] {
+        assert_eq!(rt; table.entry(page), entry);
+        assert_eq!(rt; table.granted(page), frame);
+    }
+    table.clear(&mut gpu, &memory);
+    assert_eq!(rt; table.entry(5), 0);
+    Ok(())
+}
+
+// Two frames: the last word of the first, the first of the second, and past the end.
+#[test]
+fn two_frames(rt: HostRuntime) -> Result<(), Fail> {
+    let mut gpu = SoftGpu::new(rt.alloc());
+    let memory = Memory::new(rt.alloc(), &mut gpu, GuestId(0), 2)?;
+    assert_eq!(rt; memory.frames(), 2);
+    memory.write(&mut gpu, 0xff8, Width::Eight, 0x1122_3344_5566_7788);
+    memory.write(&mut gpu, 0xffc, Width::Four, 0xaabb_ccdd);
+    memory.write(&mut gpu, 0x1000, Width::Four, 7);
+    memory.write(&mut gpu, 0x2000, Width::Eight, 9);
+    assert_eq!(rt;
+        memory.read(&gpu, 0xff8, Width::Eight),
+        0xaabb_ccdd_5566_7788
+    );
+    assert_eq!(rt; memory.read(&gpu, 0xff8, Width::Four), 0x5566_7788);
+    assert_eq!(rt; memory.read(&gpu, 0x1000, Width::Eight), 7);
+    assert_eq!(rt; memory.read(&gpu, 0x2000, Width::Four), 0xffff_ffff);
+    Ok(())
+}
