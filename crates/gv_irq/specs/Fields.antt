@@ -7,4 +7,4 @@ abbrev pub group_of : Held → Group
 group_of g = record { imr = g.imr; iir = g.iir; ier = g.ier }
 
 abbrev pub interrupts_of : Inside → Interrupts
-interrupts_of s = record { master = s.master; group = group_of s.group }
+interrupts_of s = record { master = s.master; zero = group_of s.zero; one = group_of s.one; three = group_of s.three }

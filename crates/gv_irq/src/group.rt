@@ -1,5 +1,39 @@
-ghost use Rattle.std.specs.Prelude.{◌≡◌, ◌<◌, ◌==◌, ◌&&◌, not};
-ghost use Rattle.gv_irq.specs.Irq.{has_bit, group_raised, deliverable_bits, AreDwords};
+ghost use Rattle.std.specs.Prelude.{◌≡◌, ◌<◌};
+ghost use Rattle.gv_irq.specs.Irq.{has_bit, group_raised, may_interrupt, deliverable_bits, reset_group, AreDwords};
+
+/// The groups by their numbers: 0 has the bits of RCS and BCS, 1 those of VCS, 3 those of VECS.
+#[derive(Clone, Copy, Debug, PartialEq, Eq)]
+pub enum GroupId {
+    Zero,
+    One,
+    Three,
+}
+
+impl GroupId {
+    ghost use Rattle.gv_irq.specs.Irq.{number_of, group_numbered};
+
+    /// The group with this number, 0, 1 or 3.
+    pub fn of(number: u32) -> GroupId
+        ensures { result ≡ group_numbered number }
+    {
+        match number {
+            0 => GroupId::Zero,
+            1 => GroupId::One,
+            _ => GroupId::Three,
+        }
+    }
+
+    /// Its number.
+    pub fn number(self) -> u8
+        ensures { result ≡ number_of self }
+    {
+        match self {
+            GroupId::Zero => 0,
+            GroupId::One => 1,
+            GroupId::Three => 3,
+        }
+    }
+}
 
 /// A group of 32 interrupt bits: those that are masked, that are pending and that may interrupt.
 #[derive(Clone, Copy, Debug, PartialEq, Eq)]
@@ -14,7 +48,7 @@ impl Group {
 
     /// Every bit masked, none pending, and none that may interrupt.
     pub fn new() -> Group
-        ensures { result ≡ record { imr = 0xFFFFFFFF; iir = 0; ier = 0 } }
+        ensures { group_of result ≡ reset_group }
     {
         Group {
             imr: u32::MAX,
@@ -23,11 +57,11 @@ impl Group {
         }
     }
 
-    /// Sets the bit of IIR, unless IMR masks it. Answers whether the bit was clear before, and may
+    /// Sets the bit of IIR, unless IMR masks it. Answers whether it wasn't masked, was clear before, and may
     /// interrupt.
     pub fn raise(&mut self, bit: u8) -> bool
         requires { bit < 32 }
-        ensures answer { result ≡ (not (has_bit self.old.imr bit) && not (has_bit self.old.iir bit) && has_bit self.old.ier bit) }
+        ensures answer { result ≡ may_interrupt (group_of self.old) bit }
         ensures dwords { AreDwords (group_of self.old) → AreDwords (group_of self.new) }
         ensures after { group_of self.new ≡ group_raised (group_of self.old) bit }
     {

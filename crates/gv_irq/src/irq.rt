@@ -1,29 +1,23 @@
-ghost use Rattle.std.specs.Prelude.{◌≡◌, ◌<◌, IsTrue};
-ghost use Rattle.gv_irq.specs.Irq.{reset_irq, raised, injects_raised, is_interrupt_register, is_deliverable, irq_read, master_read, irq_written, injects_written, AreDwords};
+ghost use Rattle.std.specs.Prelude.{◌≡◌, ◌≢◌, ◌+◌, ◌/◌, ◌<◌, ◌≤◌, IsTrue, if◌then◌else◌};
+ghost use Rattle.gv_irq.specs.Irq.{reset_irq, raised, raising_tells, is_interrupt_register, irq_read, master_read, irq_written, writing_tells, first_deliverable, number_in, interrupt_bit, AreDwords};
 
-use crate::group::{Group, has_bit};
+use crate::group::{Group, GroupId, has_bit};
+use crate::register::{Register, register_at};
+use gv_types::EngineId;
 use std::marker::Model;
 
-const MASTER: u32 = 0x44200;
-
-const ISR: u32 = 0x44300;
-
-const IMR: u32 = 0x44304;
-
-const IIR: u32 = 0x44308;
-
-const IER: u32 = 0x4430C;
-
-/// The interrupt registers of one guest: master, and ISR, IMR, IIR and IER of the group of the
-/// engines RCS (bits 15..0) and BCS (bits 31..16). No call takes memory.
+/// The interrupt registers of one guest: a master, and ISR, IMR, IIR and IER of each of the groups 0, 1 and
+/// 3. No call takes memory.
 #[derive(Drop)]
 pub struct Irq {
     master: bool,
-    group: Group,
+    zero: Group,
+    one: Group,
+    three: Group,
 }
 
 impl Model for Irq {
-    ghost use Rattle.gv_irq.specs.Irq.{Interrupts, AreDwords};
+    ghost use Rattle.gv_irq.specs.Irq.{Interrupts, AllDwords};
 
     ghost Value = { Interrupts };
 
@@ -31,10 +25,13 @@ impl Model for Irq {
 
     ghost view = { interrupts_of };
 
-    ghost invariant = { λ s. AreDwords (interrupts_of s).group };
+    ghost invariant = { λ s. AllDwords (interrupts_of s) };
 }
 
 impl Irq {
+    ghost use Rattle.gv_irq.specs.Irq.{group, with_group, written_by, read_by, is_deliverable, told_of, write_injects};
+    ghost use Rattle.gv_irq.specs.Fields.{group_of};
+
     /// As after a reset: every bit is masked, none is pending, none may interrupt, and master's bit
     /// 31 is clear.
     pub fn new() -> Irq
@@ -42,79 +39,164 @@ impl Irq {
     {
         Irq {
             master: false,
-            group: Group::new(),
+            zero: Group::new(),
+            one: Group::new(),
+            three: Group::new(),
         }
     }
 
-    /// Raises a bit of the group: sets it in IIR, unless IMR masks it. Answers whether an interrupt
-    /// is injected: where IMR doesn't mask the bit, it was clear before, IER has it and master's
-    /// bit 31 is set.
-    pub fn raise(&mut self, bit: u8) -> bool
-        requires { bit < 32 }
-        ensures injected { result ≡ injects_raised self.old bit }
-        ensures after { self.new ≡ raised self.old bit }
+    fn group(&self, id: GroupId) -> Group
+        ensures value { group_of result ≡ group self.now id }
+        ensures dwords { AreDwords (group_of result) }
     {
-        self.group.raise(bit) && self.master
+        match id {
+            GroupId::Zero => self.zero,
+            GroupId::One => self.one,
+            GroupId::Three => self.three,
+        }
     }
 
-    /// A register. Master reads bit 31, bit 0 where `IIR & IER` has a bit of 15..0, and bit 1 where
-    /// it has one of 31..16. ISR reads 0.
+    fn set_group(&mut self, id: GroupId, group: Group)
+        requires { AreDwords (group_of group) }
+        ensures { self.new ≡ with_group self.old id (group_of group) }
+    {
+        match id {
+            GroupId::Zero => self.zero = group,
+            GroupId::One => self.one = group,
+            GroupId::Three => self.three = group,
+        }
+    }
+
+    /// Raises a bit: sets it in its group's IIR, unless the group's IMR masks it. The bits are counted through
+    /// the groups, 32 times the group's number on. Where an interrupt is injected it answers IIR of the
+    /// group afterwards: where IMR doesn't mask the bit, it was clear before, IER has it and master's bit 31
+    /// is set.
+    pub fn raise(&mut self, bit: u8) -> Option<u32>
+        requires below { bit < 128 }
+        requires group { bit / 32 ≢ 2 }
+        ensures injected { result ≡ raising_tells self.old bit }
+        ensures after { self.new ≡ raised self.old bit }
+    {
+        let id = GroupId::of(u32::from(bit / 32));
+        let mut group = self.group(id);
+        let injects = group.raise(bit % 32) && self.master;
+        self.set_group(id, group);
+        if injects { Some(group.iir) } else { None }
+    }
+
+    /// A register. Master reads bit 31; bits 0 and 1 where group 0's `IIR & IER` has a bit of 15..0 and of
+    /// 31..16; bit 2 where group 1's has a bit of 15..0; bit 6 where group 3's has one of 15..0. ISR reads 0.
     pub fn read(&self, offset: u32) -> u32
         requires { IsTrue (is_interrupt_register offset) }
-        ensures value { result ≡ irq_read self.now offset }
-        ensures dwords { AreDwords self.now.group }
+        ensures { result ≡ irq_read self.now offset }
     {
-        match offset {
-            MASTER => self.master(),
-            ISR => 0,
-            IMR => self.group.imr,
-            IIR => self.group.iir,
-            IER => self.group.ier,
-            _ => unreachable!(),
+        match register_at(offset) {
+            Register::Master => self.master(),
+            Register::Isr => 0,
+            Register::Imr(id) => self.group(id).imr,
+            Register::Iir(id) => self.group(id).iir,
+            Register::Ier(id) => self.group(id).ier,
         }
     }
 
     fn master(&self) -> u32
         ensures { result ≡ master_read self.now }
     {
-        let bits = self.group.deliverable();
-        let master = if self.master { 1 << 31 } else { 0 };
-        let lower = if bits & 0xffff == 0 { 0 } else { 1 };
-        let upper = if bits >> 16 == 0 { 0 } else { 2 };
-        master | lower | upper
+        let zero = self.zero.deliverable();
+        let one = self.one.deliverable();
+        let three = self.three.deliverable();
+        bit_where(self.master, 0x8000_0000)
+            + bit_where(zero & 0xffff != 0, 1)
+            + bit_where(zero >> 16 != 0, 2)
+            + bit_where(one & 0xffff != 0, 4)
+            + bit_where(three & 0xffff != 0, 0x40)
     }
 
-    /// Writes a register: bit 31 of master, IMR and IER as they are; a one clears that bit of IIR,
-    /// and ISR isn't written. Answers whether an interrupt is injected: where a write to master or
-    /// IER makes interrupts deliverable, which weren't before.
-    pub fn write(&mut self, offset: u32, value: u32) -> bool
+    /// Writes a register: bit 31 of master, IMR and IER as they are; a one clears that bit of IIR, and ISR
+    /// isn't written. Where an interrupt is injected it answers IIR of its group afterwards. A write to a
+    /// group's IER injects one of that group where it makes the group deliverable; a write to master one of
+    /// the lowest deliverable group where none was deliverable before.
+    pub fn write(&mut self, offset: u32, value: u32) -> Option<u32>
         requires { IsTrue (is_interrupt_register offset) }
-        ensures injected { result ≡ injects_written self.old offset value }
+        ensures injected { result ≡ writing_tells self.old offset value }
         ensures after { self.new ≡ irq_written self.old offset value }
     {
-        let before = self.is_deliverable();
-        self.set(offset, value);
-        !before && self.is_deliverable()
-    }
-
-    fn set(&mut self, offset: u32, value: u32)
-        requires { IsTrue (is_interrupt_register offset) }
-        ensures { self.new ≡ irq_written self.old offset value }
-    {
-        match offset {
-            MASTER => self.master = has_bit(value, 31),
-            ISR => {}
-            IMR => self.group.imr = value,
-            IIR => self.group.iir &= !value,
-            IER => self.group.ier = value,
-            _ => unreachable!(),
+        match register_at(offset) {
+            Register::Master => self.write_master(value),
+            Register::Isr => None,
+            Register::Imr(id) => {
+                let mut group = self.group(id);
+                group.imr = value;
+                self.set_group(id, group);
+                None
+            }
+            Register::Iir(id) => {
+                let mut group = self.group(id);
+                group.iir &= !value;
+                self.set_group(id, group);
+                None
+            }
+            Register::Ier(id) => self.write_ier(id, value),
         }
     }
 
-    fn is_deliverable(&self) -> bool
-        ensures { result ≡ is_deliverable self.now }
+    fn write_master(&mut self, value: u32) -> Option<u32>
+        ensures injected { result ≡ told_of (write_injects Register.Master self.old self.new) self.new }
+        ensures after { self.new ≡ written_by Register.Master self.old value }
     {
-        self.master && self.group.deliverable() != 0
+        let before = self.first_group();
+        self.master = has_bit(value, 31);
+        match (before, self.first_group()) {
+            (None, Some(id)) => Some(self.group(id).iir),
+            _ => None,
+        }
+    }
+
+    fn write_ier(&mut self, id: GroupId, value: u32) -> Option<u32>
+        ensures injected { result ≡ told_of (write_injects (Register.Ier id) self.old self.new) self.new }
+        ensures after { self.new ≡ written_by (Register.Ier id) self.old value }
+    {
+        let before = self.is_deliverable(id);
+        let mut group = self.group(id);
+        group.ier = value;
+        self.set_group(id, group);
+        if !before && self.is_deliverable(id) {
+            Some(group.iir)
+        } else {
+            None
+        }
+    }
+
+    fn is_deliverable(&self, id: GroupId) -> bool
+        ensures { result ≡ is_deliverable self.now id }
+    {
+        self.master && self.group(id).deliverable() != 0
+    }
+
+    // The lowest deliverable group.
+    fn first_group(&self) -> Option<GroupId>
+        ensures { result ≡ first_deliverable self.now }
+    {
+        if self.is_deliverable(GroupId::Zero) {
+            Some(GroupId::Zero)
+        } else if self.is_deliverable(GroupId::One) {
+            Some(GroupId::One)
+        } else if self.is_deliverable(GroupId::Three) {
+            Some(GroupId::Three)
+        } else {
+            None
+        }
+    }
+
+    /// The number of the lowest group that is deliverable: master's bit 31 is set and the group's `IIR & IER`
+    /// isn't 0.
+    pub fn first(&self) -> Option<u8>
+        ensures { result ≡ number_in (first_deliverable self.now) }
+    {
+        match self.first_group() {
+            Some(id) => Some(id.number()),
+            None => None,
+        }
     }
 
     /// As a new one.
@@ -130,5 +212,29 @@ impl Default for Irq {
 
     fn default() -> Self {
         Irq::new()
+    }
+}
+
+fn bit_where(set: bool, bit: u32) -> u32
+    ensures value { result ≡ (if set then bit else 0) }
+    ensures most { result ≤ bit }
+{
+    if set { bit } else { 0 }
+}
+
+/// A bit of an engine's sixteen, as `raise` counts the bits of all groups. Of the sixteen, bit 0 is the user
+/// interrupt, bit 4 notify and bit 8 context switch.
+pub fn interrupt_bit(engine: EngineId, bit: u8) -> u8
+    requires engine { engine.0 < 4 }
+    requires bit { bit < 16 }
+    ensures value { result ≡ interrupt_bit engine.0 bit }
+    ensures below { result < 128 }
+    ensures group { result / 32 ≢ 2 }
+{
+    match engine {
+        EngineId(0) => bit,
+        EngineId(1) => 16 + bit,
+        EngineId(2) => 32 + bit,
+        EngineId(_) => 96 + bit,
     }
 }

@@ -1,9 +1,5 @@
-pub mod Two
-pub mod Rows
-pub mod Absent
-pub mod Spans
-pub mod Told
-pub mod Dwords
+pub mod Finds
+pub mod Blocks
+pub mod Found
 pub mod Maps
-pub mod Laws
 pub mod MaskedBits

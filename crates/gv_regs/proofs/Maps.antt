@@ -1,180 +1,210 @@
--- The register file's map, and what reading, writing and resetting do to it.
-use Rattle.std.proofs.Common.{◌≡◌, ℕ, ◌*◌, ◌<◌, ◌≤◌, Bool, true, false, not, ◌&&◌, ◌||◌, cond, eqb, ltb, Some, None, if◌then◌else◌, List, [], ◌∷◌, length, get_or, set, take, drop, replicate, Option, refl, sym, ap, subst, ◌∙◌, ◌++◌, arith}
-use Rattle.std.proofs.lemmas.Bool.{false≢true, eqb-true}
+-- The register file's map, and what writing and resetting do to it.
+use Rattle.std.proofs.Common.{length-take, rules, ◌%◌, ⊎_elim, ◌≡◌, ℕ, zero, suc, ◌+◌, ◌-◌, ◌*◌, ◌/◌, ◌<◌, ◌≤◌, Bool, true, false, not, ◌&&◌, ◌||◌, cond, eqb, leb, ltb, List, [], ◌∷◌, ◌++◌, length, get_or, set, take, drop, replicate, Option, Some, None, refl, sym, ap, ◌∙◌, subst, arith, if◌then◌else◌}
+use Rattle.std.proofs.lemmas.Bool.{cases_lt, false≢true, and_parts, eqb-true, ltb-true, eq-eqb}
 use Rattle.std.proofs.lemmas.Bool.Decides.{nat_tests}
-use Rattle.std.specs.List.{list_all}
-use Rattle.gv_types.specs.declared.ranges.Ranges.{Ranges}
-use Rattle.gv_regs.specs.declared.effect.Target.TheVariants.{Own}
-use Rattle.gv_regs.specs.Table.{Kind, Plain, Masked, Acknowledges, row_at, kind_at, target_at, reset_at, engine_at}
-use Rattle.gv_regs.specs.Registers.{is_own, is_written, keeps, own_read, register_read, dword_after, put, register_written, reset_registers, is_number, engine_reset, kept_offsets, dword_at}
-use Rattle.gv_regs.specs.Decoded.{IsKept, IsAcknowledgement}
-use Rattle.gv_regs.proofs.Dwords.{is_among, are_distinct, both, dword_at-place, dword_at-set, dword_at-zeros, dword_at-cleared}
-use Rattle.gv_regs.proofs.Told.{told}
+use Rattle.std.proofs.lemmas.List.{get_or-append_right, get_or-drop, places, get_or-set_same, get_or-set_other}
+use borrow.Rule.Slice.PartMut.{put_mid}
+use Rattle.std.proofs.lemmas.List.Quantifiers.{position-Some}
+use Rattle.std.specs.List.{find, list_all, range_with_len}
+use Rattle.gv_regs.specs.declared.table.Kind.{Kind}
+use Rattle.gv_regs.specs.Table.{Row, registers, covers, row_at, kind_at, reset_of, reset_at, engine_at, kind_of, target_of}
+use Rattle.gv_regs.specs.Registers.{is_own, is_written, keeps, dword_after, put, register_written, reset_registers, is_number, engine_reset, kept_offsets, slot_of, dword_in}
+use Rattle.gv_regs.specs.Decoded.{IsOwn}
+use Rattle.gv_regs.proofs.Finds.{found, at_number}
 
-distinct : are_distinct kept_offsets ≡ true
+-- ---- slots
+
+place_of : (offset slot : ℕ) → slot_of offset ≡ Some slot → (slot < length kept_offsets) × (get_or kept_offsets slot 0 ≡ offset)
+unfolding slot_of
+place_of offset slot is =
+    let known = position-Some (λ at. eqb at offset) kept_offsets slot 0 is in
+    (known.0, eqb-true (get_or kept_offsets slot 0) offset known.1)
+
+many : length kept_offsets ≡ 29
 unfolding kept_offsets
-distinct = refl
-
-seventeen : length kept_offsets ≡ 17
-unfolding kept_offsets
-seventeen = refl
-
--- ---- reading
-
-pub place_read : (dwords : List ℕ) (slot : ℕ) → length dwords ≡ 17 → slot < 17 → dword_at kept_offsets dwords (get_or kept_offsets slot 0) ≡ get_or dwords slot 0
-place_read dwords slot same below = dword_at-place kept_offsets dwords slot distinct (same ∙ sym seventeen) (omega (arith, seventeen))
-
-read_own : (guest : ℕ) (ranges : Ranges) (map : ℕ → ℕ) (offset : ℕ) (kind : Kind) → target_at offset ≡ Own → kind_at offset ≡ kind → register_read guest ranges map offset ≡ own_read guest ranges map offset kind
-read_own guest ranges map offset kind target is =
-    ap (λ t. if is_own t then own_read guest ranges map offset (kind_at offset) else 0) target ∙ ap (own_read guest ranges map offset) is
-
-pub read_plain : (guest : ℕ) (ranges : Ranges) (dwords : List ℕ) (slot offset : ℕ) → length dwords ≡ 17 → IsKept Plain slot offset → get_or dwords slot 0 ≡ register_read guest ranges (dword_at kept_offsets dwords) offset
-read_plain guest ranges dwords slot offset same kept =
-    sym (place_read dwords slot same kept.within) ∙ ap (dword_at kept_offsets dwords) kept.place
-    ∙ sym (read_own guest ranges (dword_at kept_offsets dwords) offset Plain kept.target kept.kind)
-
-pub read_masked : (guest : ℕ) (ranges : Ranges) (dwords : List ℕ) (slot offset : ℕ) → length dwords ≡ 17 → IsKept Masked slot offset → get_or dwords slot 0 ≡ register_read guest ranges (dword_at kept_offsets dwords) offset
-read_masked guest ranges dwords slot offset same kept =
-    sym (place_read dwords slot same kept.within) ∙ ap (dword_at kept_offsets dwords) kept.place
-    ∙ sym (read_own guest ranges (dword_at kept_offsets dwords) offset Masked kept.target kept.kind)
-
-pub read_acknowledgement : (guest : ℕ) (ranges : Ranges) (dwords : List ℕ) (slot offset : ℕ) → length dwords ≡ 17 → IsAcknowledgement slot offset → get_or dwords slot 0 ≡ register_read guest ranges (dword_at kept_offsets dwords) offset
-read_acknowledgement guest ranges dwords slot offset same acknowledges =
-    sym (place_read dwords slot same acknowledges.within)
-    ∙ sym (read_own guest ranges (dword_at kept_offsets dwords) offset (Acknowledges (get_or kept_offsets slot 0)) acknowledges.target acknowledges.kind)
+many = refl
 
 -- ---- writing
 
-written_own : (map : ℕ → ℕ) (offset value : ℕ) (kind : Kind) → target_at offset ≡ Own → kind_at offset ≡ kind → is_written kind ≡ true → register_written map offset value ≡ put map offset (dword_after kind (map offset) value)
-written_own map offset value kind target is writes =
-    ap (λ t. if is_own t && is_written (kind_at offset) then put map offset (dword_after (kind_at offset) (map offset) value) else map) target
-    ∙ ap (λ k. if is_written k then put map offset (dword_after k (map offset) value) else map) is
+put_by : (q offset slot value : ℕ) (dwords : List ℕ) (same : Bool) (at : Option ℕ) → eqb offset q ≡ same → slot_of q ≡ at → slot_of offset ≡ Some slot → slot < length dwords
+    → dword_in (set dwords slot value) at ≡ cond same value (dword_in dwords at)
+put_by q offset slot value dwords true None e is has below =
+    let both : Some slot ≡ None = sym has ∙ ap slot_of (eqb-true offset q e) ∙ is in cc
+put_by q offset slot value dwords true (Some s) e is has below =
+    let both : Some slot ≡ Some s = sym has ∙ ap slot_of (eqb-true offset q e) ∙ is in
+    let s_is : slot ≡ s = cc in
+    subst (λ k. get_or (set dwords slot value) k 0 ≡ value) s_is (get_or-set_same dwords slot value 0 below)
+put_by q offset slot value dwords false None e is has below = refl
+put_by q offset slot value dwords false (Some s) e is has below =
+    get_or-set_other dwords slot s value 0
+    (λ s_is. false≢true (sym e ∙ eq-eqb offset q (sym (place_of offset slot has).1 ∙ ap (λ k. get_or kept_offsets k 0) (sym s_is) ∙ (place_of q s is).1)))
+
+written_own : (map : ℕ → ℕ) (offset value slot : ℕ) (kind : Kind) → IsOwn kind slot offset → is_written kind ≡ true → register_written map offset value ≡ put map offset (dword_after kind (map offset) value)
+written_own map offset value slot kind own writes =
+    ap (λ t. if is_own t && is_written (kind_at offset) then put map offset (dword_after (kind_at offset) (map offset) value) else map) own.target
+    ∙ ap (λ k. if is_written k then put map offset (dword_after k (map offset) value) else map) own.kind
     ∙ ap (λ w. if w then put map offset (dword_after kind (map offset) value) else map) writes
 
-put_in_place : (dwords : List ℕ) (slot offset value : ℕ) → length dwords ≡ 17 → slot < 17 → get_or kept_offsets slot 0 ≡ offset → dword_at kept_offsets (set dwords slot value) ≡ put (dword_at kept_offsets dwords) offset value
-put_in_place dwords slot offset value same below place =
-    let pointwise : (q : ℕ) → dword_at kept_offsets (set dwords slot value) q ≡ put (dword_at kept_offsets dwords) (get_or kept_offsets slot 0) value q
-    = λ q. dword_at-set kept_offsets dwords slot value q distinct (same ∙ sym seventeen) (omega (arith, seventeen)) in
-    (λ i q. pointwise q i) ∙ ap (λ o. put (dword_at kept_offsets dwords) o value) place
+-- a kept register is written in its slot
+pub written : (dwords : List ℕ) (slot offset value new : ℕ) (kind : Kind) → length dwords ≡ 29 → IsOwn kind slot offset → is_written kind ≡ true → slot < 29 → slot_of offset ≡ Some slot → new ≡ dword_after kind (get_or dwords slot 0) value
+    → (λ q. dword_in (set dwords slot new) (slot_of q)) ≡ register_written (λ q. dword_in dwords (slot_of q)) offset value
+written dwords slot offset value new kind same own writes below has is =
+    let map : ℕ → ℕ = λ q. dword_in dwords (slot_of q) in
+    let pointwise : (q : ℕ) → dword_in (set dwords slot new) (slot_of q) ≡ put map offset new q
+    = λ q. put_by q offset slot new dwords (eqb offset q) (slot_of q) refl refl has (omega arith) in
+    (λ i q. pointwise q i)
+    ∙ ap (put map offset) (is ∙ ap (λ at. dword_after kind (dword_in dwords at) value) (sym has))
+    ∙ sym (written_own map offset value slot kind own writes)
 
-pub written : (dwords : List ℕ) (slot offset value new : ℕ) (kind : Kind) → length dwords ≡ 17 → IsKept kind slot offset → is_written kind ≡ true → new ≡ dword_after kind (get_or dwords slot 0) value
-    → dword_at kept_offsets (set dwords slot new) ≡ register_written (dword_at kept_offsets dwords) offset value
-written dwords slot offset value new kind same kept writes is =
-    put_in_place dwords slot offset new same kept.within kept.place
-    ∙ ap (put (dword_at kept_offsets dwords) offset) (is ∙ ap (λ old. dword_after kind old value) (sym (place_read dwords slot same kept.within) ∙ ap (dword_at kept_offsets dwords) kept.place))
-    ∙ sym (written_own (dword_at kept_offsets dwords) offset value kind kept.target kept.kind writes)
+-- ---- reset values
 
--- ---- resets
+-- a register that the map holds resets to 0
+abbrev resets_right : Row → Bool
+resets_right row = list_all (λ number. not (is_own (row.target number) && is_written row.kind) || eqb row.reset 0) (range_with_len 0 row.dwords)
 
-all_among_later : (test : ℕ → Bool) (at : ℕ) (offsets : List ℕ) (offset : ℕ) (same : Bool) → eqb at offset ≡ same → (test at && list_all test offsets) ≡ true → (same || is_among offsets offset) ≡ true
-    → (list_all test offsets ≡ true → is_among offsets offset ≡ true → test offset ≡ true) → test offset ≡ true
-all_among_later test at offsets offset true e all among later = subst (λ q. test q ≡ true) (eqb-true at offset e) (both (test at) (list_all test offsets) all).0
-all_among_later test at offsets offset false e all among later = later (both (test at) (list_all test offsets) all).1 among
+implied : (a b : Bool) → (not a || b) ≡ true → a ≡ true → b ≡ true
+implied true b h is = h
+implied false b h is = absurd (false≢true is)
 
-all_among : (test : ℕ → Bool) (offsets : List ℕ) (offset : ℕ) → list_all test offsets ≡ true → is_among offsets offset ≡ true → test offset ≡ true
-all_among test [] offset all among = absurd (false≢true among)
-all_among test (at ∷ offsets) offset all among = all_among_later test at offsets offset (eqb at offset) refl all among (all_among test offsets offset)
+all_right : list_all resets_right registers ≡ true
+all_right = refl
 
-keeps_among : (offset : ℕ) → keeps offset ≡ true → is_among kept_offsets offset ≡ true
-keeps_among offset kept = (told offset).kept kept
+some_by : (aligned : Bool) (found row : Option Row) → (if aligned then found else None) ≡ row → (row ≡ None → ⊥) → found ≡ row
+some_by true found row is other = is
+some_by false found row is other = absurd (other (sym is))
 
-all_zero : list_all (λ offset. eqb (reset_at offset) 0) kept_offsets ≡ true
-unfolding kept_offsets row_at
-all_zero = refl
+in_table : (offset : ℕ) (row : Row) → row_at offset ≡ Some row → find (λ r. covers r offset) registers ≡ Some row
+unfolding row_at
+in_table offset row is = some_by (eqb (offset % 4) 0) (find (λ r. covers r offset) registers) (Some row) is (λ none. cc)
+
+number_below : (first dwords offset : ℕ) → (leb first offset && ltb offset (first + 4 * dwords)) ≡ true → (offset - first) / 4 < dwords
+number_below first dwords offset covers =
+    let parts = and_parts (leb first offset) (ltb offset (first + 4 * dwords)) covers in
+    let below : offset < first + 4 * dwords = ltb-true offset (first + 4 * dwords) parts.1 in
+    let from : first ≤ offset = grind (arith, nat_tests) in
+    omega arith
+
+zero_by : (offset : ℕ) (row : Option Row) → row_at offset ≡ row → (is_own (target_of row offset) && is_written (kind_of row)) ≡ true → reset_of row ≡ 0
+zero_by offset None is kept = refl
+zero_by offset (Some row) is kept =
+    let known = found (λ r. covers r offset) resets_right registers row all_right (in_table offset row is) in
+    let number : ℕ = (offset - row.first) / 4 in
+    let test = at_number (λ n. not (is_own (row.target n) && is_written row.kind) || eqb row.reset 0) 0 row.dwords number known.1 (number_below row.first row.dwords offset known.0) in
+    let zero : 0 + number ≡ number = omega arith in
+    let kept_there : (is_own (row.target (0 + number)) && is_written row.kind) ≡ true = ap (λ n. is_own (row.target n) && is_written row.kind) zero ∙ kept in
+    eqb-true row.reset 0 (implied _ (eqb row.reset 0) test kept_there)
 
 pub reset_at-zero : (offset : ℕ) → keeps offset ≡ true → reset_at offset ≡ 0
-reset_at-zero offset kept = eqb-true (reset_at offset) 0 (all_among (λ q. eqb (reset_at q) 0) kept_offsets offset all_zero (keeps_among offset kept))
+reset_at-zero offset kept = zero_by offset (row_at offset) refl kept
 
-choose_zero : (b : Bool) (value : ℕ) → (b ≡ true → value ≡ 0) → 0 ≡ cond b value 0
-choose_zero true value e = sym (e refl)
-choose_zero false value e = refl
+-- ---- resetting
 
-pub reset_is : dword_at kept_offsets (replicate 17 0) ≡ reset_registers
-reset_is =
-    let pointwise : (q : ℕ) → dword_at kept_offsets (replicate 17 0) q ≡ reset_registers q
-    = λ q. dword_at-zeros kept_offsets 17 q ∙ choose_zero (keeps q) (reset_at q) (reset_at-zero q) in
+zeros_at : (dwords : List ℕ) (slot : ℕ) → list_all (λ dword. eqb dword 0) dwords ≡ true → get_or dwords slot 0 ≡ 0
+zeros_at [] slot all = refl
+zeros_at (dword ∷ dwords) zero all = eqb-true dword 0 (and_parts (eqb dword 0) _ all).0
+zeros_at (dword ∷ dwords) (suc slot) all = zeros_at dwords slot (and_parts (eqb dword 0) _ all).1
+
+zeros_in : (dwords : List ℕ) (at : Option ℕ) → list_all (λ dword. eqb dword 0) dwords ≡ true → dword_in dwords at ≡ 0
+zeros_in dwords None all = refl
+zeros_in dwords (Some slot) all = zeros_at dwords slot all
+
+chosen : (b : Bool) (value other : ℕ) → (b ≡ true → value ≡ 0) → cond b 0 other ≡ cond b value other
+chosen true value other is = sym (is refl)
+chosen false value other is = refl
+
+same_choice : (b : Bool) (value : ℕ) → value ≡ cond b value value
+same_choice true value = refl
+same_choice false value = refl
+
+-- where each dword is 0, the registers are reset
+pub reset_is : (dwords : List ℕ) → list_all (λ dword. eqb dword 0) dwords ≡ true → (λ q. dword_in dwords (slot_of q)) ≡ reset_registers
+reset_is dwords all =
+    let pointwise : (q : ℕ) → dword_in dwords (slot_of q) ≡ reset_registers q
+    = λ q. zeros_in dwords (slot_of q) all ∙ same_choice (keeps q) 0 ∙ chosen (keeps q) (reset_at q) 0 (reset_at-zero q) in
     λ i q. pointwise q i
 
-same_bool : (a b : Bool) → (a ≡ true → b ≡ true) → (b ≡ true → a ≡ true) → a ≡ b
-same_bool true b there back = sym (there refl)
-same_bool false true there back = absurd (false≢true (back refl))
-same_bool false false there back = refl
+-- ---- resetting an engine
 
--- the registers of one engine, with those that the map holds
+abbrev is_engine_slot : ℕ → ℕ → Bool
+is_engine_slot engine slot = leb (engine * 6) slot && ltb slot (engine * 6 + 6)
+
 abbrev is_kept_of : ℕ → ℕ → Bool
 is_kept_of engine offset = keeps offset && is_number engine (engine_at offset)
 
-abbrev slots_of : ℕ → List ℕ
-slots_of engine = take 6 (drop (engine * 6) kept_offsets)
+abbrev are_same : Bool → Bool → Bool
+are_same a b = if a then b else not b
 
-rcs_slots : list_all (is_kept_of 0) (slots_of 0) ≡ true
+same_is : (a b : Bool) → are_same a b ≡ true → a ≡ b
+same_is true b h = sym h
+same_is false true h = cc
+same_is false false h = refl
+
+-- the first slots are the registers of the engines, six of each
+slots_right : list_all (λ slot. list_all (λ engine. are_same (is_kept_of engine (get_or kept_offsets slot 0)) (is_engine_slot engine slot)) (range_with_len 0 4)) (range_with_len 0 29) ≡ true
 unfolding kept_offsets row_at
-rcs_slots = refl
+slots_right = refl
 
-bcs_slots : list_all (is_kept_of 1) (slots_of 1) ≡ true
-unfolding kept_offsets row_at
-bcs_slots = refl
+slot_right : (engine slot : ℕ) → engine < 4 → slot < 29 → is_kept_of engine (get_or kept_offsets slot 0) ≡ is_engine_slot engine slot
+slot_right engine slot few below =
+    let here = at_number (λ s. list_all (λ e. are_same (is_kept_of e (get_or kept_offsets s 0)) (is_engine_slot e s)) (range_with_len 0 4)) 0 29 slot slots_right below in
+    let both = at_number (λ e. are_same (is_kept_of e (get_or kept_offsets (0 + slot) 0)) (is_engine_slot e (0 + slot))) 0 4 engine here few in
+    let s : 0 + slot ≡ slot = omega arith in
+    let e : 0 + engine ≡ engine = omega arith in
+    same_is (is_kept_of engine (get_or kept_offsets slot 0)) (is_engine_slot engine slot)
+    (subst (λ m. are_same (is_kept_of m (get_or kept_offsets slot 0)) (is_engine_slot m slot) ≡ true) e
+    (subst (λ n. are_same (is_kept_of (0 + engine) (get_or kept_offsets n 0)) (is_engine_slot (0 + engine) n) ≡ true) s both))
 
-rcs_others : list_all (λ offset. not (is_kept_of 0 offset) || is_among (slots_of 0) offset) kept_offsets ≡ true
-unfolding kept_offsets row_at
-rcs_others = refl
+below_cleared : (a s : ℕ) (dwords zeros : List ℕ) → length dwords ≡ 29 → a ≤ 23 → s < a → get_or (put_mid a 6 dwords zeros) s 0 ≡ get_or dwords s 0
+below_cleared a s dwords zeros same few below = search (rules, places)
 
-bcs_others : list_all (λ offset. not (is_kept_of 1 offset) || is_among (slots_of 1) offset) kept_offsets ≡ true
-unfolding kept_offsets row_at
-bcs_others = refl
+in_cleared : (a s : ℕ) (dwords : List ℕ) → length dwords ≡ 29 → a ≤ 23 → a ≤ s → s < a + 6 → get_or (put_mid a 6 dwords (replicate 6 0)) s 0 ≡ 0
+in_cleared a s dwords same few from below = search (rules, places)
 
-implied : (a b : Bool) → (not a || b) ≡ true → a ≡ true → b ≡ true
-implied true b e h = e
-implied false b e h = absurd (false≢true h)
+above_cleared : (a s : ℕ) (dwords zeros : List ℕ) → length dwords ≡ 29 → length zeros ≡ 6 → a ≤ 23 → a + 6 ≤ s → get_or (put_mid a 6 dwords zeros) s 0 ≡ get_or dwords s 0
+above_cleared a s dwords zeros same six few above =
+    let front : length (take a dwords) ≡ a = simp length-take (omega arith) in
+    get_or-append_right (take a dwords) (zeros ++ drop 6 (drop a dwords)) a s 0 front (omega arith)
+    ∙ get_or-append_right zeros (drop 6 (drop a dwords)) 6 (s - a) 0 six (omega arith)
+    ∙ get_or-drop 6 (drop a dwords) (s - a - 6) 0
+    ∙ get_or-drop a dwords (6 + (s - a - 6)) 0
+    ∙ ap (λ k. get_or dwords k 0) (omega arith)
 
-slots_are : (engine : ℕ) → list_all (is_kept_of engine) (slots_of engine) ≡ true → list_all (λ offset. not (is_kept_of engine offset) || is_among (slots_of engine) offset) kept_offsets ≡ true
-    → (offset : ℕ) → is_among (slots_of engine) offset ≡ is_kept_of engine offset
-slots_are engine all others offset =
-    same_bool (is_among (slots_of engine) offset) (is_kept_of engine offset)
-    (all_among (is_kept_of engine) (slots_of engine) offset all)
-    (λ kept. implied (is_kept_of engine offset) (is_among (slots_of engine) offset)
-    (all_among (λ q. not (is_kept_of engine q) || is_among (slots_of engine) q) kept_offsets offset others (keeps_among offset (both (keeps offset) _ kept).0)) kept)
+in_span : (a s value old : ℕ) → a ≤ s → s < a + 6 → cond (leb a s && ltb s (a + 6)) value old ≡ value
+in_span a s value old from below = grind (arith, nat_tests)
 
-zero_or : (b : Bool) (value old : ℕ) → (b ≡ true → value ≡ 0) → cond b 0 old ≡ cond b value old
-zero_or true value old e = sym (e refl)
-zero_or false value old e = refl
+out_below : (a s value old : ℕ) → s < a → cond (leb a s && ltb s (a + 6)) value old ≡ old
+out_below a s value old below = grind (arith, nat_tests)
 
-engine_cleared : (engine : ℕ) → ((offset : ℕ) → is_among (slots_of engine) offset ≡ is_kept_of engine offset) → (dwords : List ℕ) → length dwords ≡ 17
-    → dword_at kept_offsets (take (engine * 6) dwords ++ (replicate 6 0 ++ drop 6 (drop (engine * 6) dwords))) ≡ engine_reset engine (dword_at kept_offsets dwords)
-engine_cleared engine slots dwords same =
-    let pointwise : (q : ℕ) → dword_at kept_offsets (take (engine * 6) dwords ++ (replicate 6 0 ++ drop 6 (drop (engine * 6) dwords))) q ≡ engine_reset engine (dword_at kept_offsets dwords) q
-    = λ q. dword_at-cleared (engine * 6) 6 kept_offsets dwords q distinct (same ∙ sym seventeen)
-    ∙ ap (λ b. cond b 0 (dword_at kept_offsets dwords q)) (slots q)
-    ∙ zero_or (is_kept_of engine q) (reset_at q) (dword_at kept_offsets dwords q) (λ e. reset_at-zero q (both (keeps q) _ e).0) in
-    λ i q. pointwise q i
+out_above : (a s value old : ℕ) → a + 6 ≤ s → cond (leb a s && ltb s (a + 6)) value old ≡ old
+out_above a s value old above = grind (arith, nat_tests)
 
-pub rcs_cleared : (dwords : List ℕ) → length dwords ≡ 17 → dword_at kept_offsets (replicate 6 0 ++ drop 6 dwords) ≡ engine_reset 0 (dword_at kept_offsets dwords)
-rcs_cleared dwords same = engine_cleared 0 (slots_are 0 rcs_slots rcs_others) dwords same
+cleared_at : (a s : ℕ) (dwords : List ℕ) → length dwords ≡ 29 → a ≤ 23 → get_or (put_mid a 6 dwords (replicate 6 0)) s 0 ≡ cond (leb a s && ltb s (a + 6)) 0 (get_or dwords s 0)
+cleared_at a s dwords same few =
+    ⊎_elim
+    (λ below. below_cleared a s dwords (replicate 6 0) same few below ∙ sym (out_below a s 0 (get_or dwords s 0) below))
+    (λ from. ⊎_elim
+    (λ below. in_cleared a s dwords same few from below ∙ sym (in_span a s 0 (get_or dwords s 0) from below))
+    (λ above. above_cleared a s dwords (replicate 6 0) same refl few above ∙ sym (out_above a s 0 (get_or dwords s 0) above))
+    (cases_lt s (a + 6)))
+    (cases_lt s a)
 
-pub bcs_cleared : (dwords : List ℕ) → length dwords ≡ 17 → dword_at kept_offsets (take 6 dwords ++ (replicate 6 0 ++ drop 6 (drop 6 dwords))) ≡ engine_reset 1 (dword_at kept_offsets dwords)
-bcs_cleared dwords same = engine_cleared 1 (slots_are 1 bcs_slots bcs_others) dwords same
+cleared_by : (engine q : ℕ) (dwords : List ℕ) (at : Option ℕ) → engine < 4 → length dwords ≡ 29 → slot_of q ≡ at
+    → dword_in (put_mid (engine * 6) 6 dwords (replicate 6 0)) at ≡ cond (is_kept_of engine q) (reset_at q) (dword_in dwords at)
+cleared_by engine q dwords None few same is = same_choice (is_kept_of engine q) 0 ∙ chosen (is_kept_of engine q) (reset_at q) 0 (λ kept. reset_at-zero q (and_parts (keeps q) _ kept).0)
+cleared_by engine q dwords (Some s) few same is =
+    let place = place_of q s is in
+    let right : is_kept_of engine q ≡ is_engine_slot engine s = ap (is_kept_of engine) (sym place.1) ∙ slot_right engine s few (omega (arith, place.0, many)) in
+    cleared_at (engine * 6) s dwords same (omega arith)
+    ∙ ap (λ b. cond b 0 (get_or dwords s 0)) (sym right)
+    ∙ chosen (is_kept_of engine q) (reset_at q) (get_or dwords s 0) (λ kept. reset_at-zero q (and_parts (keeps q) _ kept).0)
 
--- an engine that isn't built has no registers
-abbrev is_built : Option ℕ → Bool
-is_built None = true
-is_built (Some engine) = ltb engine 2
-
-all_built : list_all (λ offset. is_built (engine_at offset)) kept_offsets ≡ true
-unfolding kept_offsets row_at
-all_built = refl
-
-unbuilt_number : (engine owner : ℕ) → 2 ≤ engine → ltb owner 2 ≡ true → eqb owner engine ≡ false
-unbuilt_number engine owner high built = grind (arith, nat_tests)
-
-unbuilt_by : (engine : ℕ) (owner : Option ℕ) → 2 ≤ engine → is_built owner ≡ true → is_number engine owner ≡ false
-unbuilt_by engine None high built = refl
-unbuilt_by engine (Some owner) high built = unbuilt_number engine owner high built
-
-none_kept : (engine offset : ℕ) (kept : Bool) → keeps offset ≡ kept → 2 ≤ engine → (kept && is_number engine (engine_at offset)) ≡ false
-none_kept engine offset true e high = unbuilt_by engine (engine_at offset) high (all_among (λ q. is_built (engine_at q)) kept_offsets offset all_built (keeps_among offset e))
-none_kept engine offset false e high = refl
-
-pub unbuilt_reset : (engine : ℕ) (map : ℕ → ℕ) → 2 ≤ engine → map ≡ engine_reset engine map
-unbuilt_reset engine map high =
-    let pointwise : (q : ℕ) → map q ≡ engine_reset engine map q = λ q. sym (ap (λ b. cond b (reset_at q) (map q)) (none_kept engine q (keeps q) refl high)) in
-    λ i q. pointwise q i
+-- where the six dwords of an engine are 0, its registers are reset
+pub engine_cleared : (engine : ℕ) → engine < 4 → (dwords zeros : List ℕ) → length dwords ≡ 29 → zeros ≡ replicate 6 0
+    → (λ q. dword_in (put_mid (engine * 6) (engine * 6 + 6 - engine * 6) dwords zeros) (slot_of q)) ≡ engine_reset engine (λ q. dword_in dwords (slot_of q))
+engine_cleared engine few dwords zeros same is =
+    let six : engine * 6 + 6 - engine * 6 ≡ 6 = omega arith in
+    let pointwise : (q : ℕ) → dword_in (put_mid (engine * 6) 6 dwords (replicate 6 0)) (slot_of q) ≡ engine_reset engine (λ o. dword_in dwords (slot_of o)) q
+    = λ q. cleared_by engine q dwords (slot_of q) few same refl in
+    ap (λ n. λ q. dword_in (put_mid (engine * 6) n dwords zeros) (slot_of q)) six
+    ∙ ap (λ zs. λ q. dword_in (put_mid (engine * 6) 6 dwords zs) (slot_of q)) is
+    ∙ (λ i q. pointwise q i)

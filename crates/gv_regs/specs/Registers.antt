@@ -1,6 +1,6 @@
 -- The register file of a guest's device: a map from offsets to dwords. It holds the registers that this
 -- part of the device serves itself and that can be written.
-use Rattle.std.specs.Prelude.{◌≡◌, ℕ, zero, suc, ◌+◌, ◌-◌, ◌*◌, ◌/◌, ◌^◌, ◌<◌, ◌≤◌, Bool, true, false, ◌==◌, ◌&&◌, ◌||◌, if◌then◌else◌, List, [], ◌∷◌, length, Option, Some, None, bit_and, bit_or, IsTrue}
+use Rattle.std.specs.Prelude.{◌≡◌, ℕ, zero, suc, ◌+◌, ◌-◌, ◌*◌, ◌/◌, ◌^◌, ◌<◌, ◌≤◌, Bool, true, false, ◌==◌, ◌&&◌, if◌then◌else◌, List, [], ◌∷◌, slice_index, position, Option, Some, None, bit_and, bit_or, IsTrue}
 use Rattle.std.specs.Int.{bit_at}
 use Rattle.std.specs.List.{flat_map}
 use Rattle.gv_types.specs.declared.ranges.Ranges.{Ranges}
@@ -11,7 +11,12 @@ use Rattle.gv_regs.specs.declared.effect.Target.{Target}
 use Rattle.gv_regs.specs.declared.effect.Target.TheVariants.{Own, Elsp, Status, StatusPointer, General, Interrupts, Absent}
 use Rattle.gv_regs.specs.declared.effect.Effect.{Effect}
 use Rattle.gv_regs.specs.declared.effect.Effect.TheVariants.{Kept, Nothing, Goes}
-use Rattle.gv_regs.specs.Table.{Kind, Plain, Masked, Acknowledges, Fixed, Row, engines, registers, kind_at, target_at, reset_at, engine_at}
+use Rattle.gv_regs.specs.declared.effect.Lookup.{Lookup}
+use Rattle.gv_regs.specs.declared.effect.Lookup.TheVariants as found
+use Rattle.gv_regs.specs.declared.table.Kind.{Kind}
+use Rattle.gv_regs.specs.declared.table.Kind.TheVariants.{Plain, Masked, Acknowledges, Fixed}
+use Rattle.gv_irq.specs.Irq.{is_interrupt_register}
+use Rattle.gv_regs.specs.Table.{Row, registers, kind_at, target_at, reset_at, engine_at}
 
 abbrev pub is_own : Target → Bool
 is_own Own = true
@@ -55,6 +60,15 @@ own_read guest ranges map offset kind = 0
 -- A register that another part serves reads 0 here.
 abbrev pub register_read : ℕ → Ranges → (ℕ → ℕ) → ℕ → ℕ
 register_read guest ranges map offset = if is_own (target_at offset) then own_read guest ranges map offset (kind_at offset) else 0
+
+-- What is found at an offset: a value, or that another part of the device serves the register.
+abbrev pub found_by : Target → ℕ → Lookup
+found_by Own value = found.Value value
+found_by Absent value = found.Value 0
+found_by target value = found.Goes target
+
+abbrev pub found_at : ℕ → Ranges → (ℕ → ℕ) → ℕ → Lookup
+found_at guest ranges map offset = found_by (target_at offset) (own_read guest ranges map offset (kind_at offset))
 
 -- ---- writing
 
@@ -101,22 +115,23 @@ engine_reset engine map offset = if keeps offset && is_number engine (engine_at 
 
 -- ---- what a target says
 
--- the offsets of master, ISR, IMR, IIR and IER
-abbrev pub is_interrupt_register : ℕ → Bool
-is_interrupt_register offset = offset == 0x44200 || offset == 0x44300 || offset == 0x44304 || offset == 0x44308 || offset == 0x4430C
-
--- An engine is one that is built. There are twelve dwords of status pairs, and 32 of general registers.
+-- An engine is one of four. There are twelve dwords of status pairs, and 32 of general registers. What goes to
+-- the interrupts is one of their registers.
 abbrev pub IsTarget : ℕ → Target → Type 0
-IsTarget offset (Elsp engine) = engine.0 < length engines
-IsTarget offset (Status engine number) = (engine.0 < length engines) × (number < 12)
-IsTarget offset (StatusPointer engine) = engine.0 < length engines
-IsTarget offset (General engine number) = (engine.0 < length engines) × (number < 32)
+IsTarget offset (Elsp engine) = engine.0 < 4
+IsTarget offset (Status engine number) = (engine.0 < 4) × (number < 12)
+IsTarget offset (StatusPointer engine) = engine.0 < 4
+IsTarget offset (General engine number) = (engine.0 < 4) × (number < 32)
 IsTarget offset Interrupts = IsTrue (is_interrupt_register offset)
 IsTarget offset target = Unit {0}
 
 abbrev pub IsEffect : ℕ → Effect → Type 0
 IsEffect offset (Goes target) = IsTarget offset target
 IsEffect offset effect = Unit {0}
+
+abbrev pub IsFound : ℕ → Lookup → Type 0
+IsFound offset (found.Goes target) = IsTarget offset target
+IsFound offset value = Unit {0}
 
 -- ---- how the map is held
 
@@ -132,10 +147,13 @@ kept_in_row row = if is_own (row.target 0) && is_written row.kind then offsets_f
 unfoldable pub kept_offsets : List ℕ
 kept_offsets = flat_map kept_in_row registers
 
--- the dword of an offset, where the dwords stand in the order of their offsets
-abbrev pub dword_at : List ℕ → List ℕ → ℕ → ℕ
-dword_at (at ∷ offsets) (dword ∷ dwords) offset = if at == offset then dword else dword_at offsets dwords offset
-dword_at offsets dwords offset = 0
+-- where the register of an offset stands among them
+unfoldable pub slot_of : ℕ → Option ℕ
+slot_of offset = position (λ at. at == offset) kept_offsets
+
+abbrev pub dword_in : List ℕ → Option ℕ → ℕ
+dword_in dwords None = 0
+dword_in dwords (Some slot) = slice_index dwords slot
 
 pub record RegisterFile : Type 0 where
   pub guest : ℕ
@@ -143,13 +161,9 @@ pub record RegisterFile : Type 0 where
   pub kept : List ℕ  -- the dwords at `kept_offsets`
 
 abbrev pub map_of : RegisterFile → ℕ → ℕ
-map_of file = dword_at kept_offsets file.kept
+map_of file offset = dword_in file.kept (slot_of offset)
 
 -- What always holds: the ranges lie in the two parts of the global table, so that base and size are dwords.
 pub record AreRanges (ranges : Ranges) : Type 0 where
   pub low : ranges.low.first + ranges.low.pages ≤ 65536
   pub high : ranges.high.first + ranges.high.pages ≤ 1032192
-
--- each entry of a map is a dword
-abbrev pub AreDwords : (ℕ → ℕ) → Type 0
-AreDwords map = (offset : ℕ) → map offset < 2 ^ 32

@@ -1,25 +1,15 @@
 -- The register table: which registers a guest's device has, by offset in bytes. An offset of no row is
 -- absent, and so is one that isn't a multiple of 4.
-use Rattle.std.specs.Prelude.{ℕ, ◌+◌, ◌-◌, ◌*◌, ◌/◌, ◌%◌, Bool, false, ◌==◌, ◌&&◌, ◌||◌, nat_le, nat_lt, if◌then◌else◌, List, [], ◌∷◌, ◌++◌, Option, Some, None}
+use Rattle.std.specs.Prelude.{ℕ, ◌+◌, ◌-◌, ◌*◌, ◌/◌, ◌%◌, Bool, map, ◌==◌, ◌&&◌, ◌||◌, nat_le, nat_lt, if◌then◌else◌, List, [], ◌∷◌, ◌++◌, Option, Some, None}
 use Rattle.std.specs.Int.{bit_at}
 use Rattle.std.specs.List.{find, flat_map}
 use Rattle.gv_types.specs.declared.ids.EngineId.{EngineId}
 use Rattle.gv_regs.specs.declared.effect.Target.{Target}
 use Rattle.gv_regs.specs.declared.effect.Target.TheVariants.{Own, Elsp, Status, StatusPointer, General, Interrupts, EngineReset, Notify, Absent}
+use Rattle.gv_regs.specs.declared.table.Kind.{Kind}
+use Rattle.gv_regs.specs.declared.table.Kind.TheVariants.{Plain, Masked, ReadOnly, Acknowledges, TopBit, OnesClear, Acting, Fixed}
 use Rattle.gv_regs.specs.declared.constant.Constant.{Constant}
 use Rattle.gv_regs.specs.declared.constant.Constant.TheVariants.{Number, GuestNumber, LowBase, LowSize, HighBase, HighSize}
-
--- What a read and a write of a register do.
-pub data Kind : Type 0 where
-  Plain : Kind  -- reads what was written
-  Masked : Kind  -- keeps 16 bits; a write changes those of them whose bit 16 places higher is set
-  ReadOnly : Kind  -- isn't written
-  Acknowledges : ℕ → Kind  -- isn't written, and reads what the request at this offset reads
-  TopBit : Kind  -- keeps bit 31 alone
-  OnesClear : Kind  -- a one that is written clears its bit
-  Acting : Kind  -- reads 0; a write acts
-  Fixed : Constant → Kind  -- isn't written, and always reads this
-  Missing : Kind  -- reads 0 and isn't written
 
 -- One or more dwords, one behind the other.
 pub record Row : Type 0 where
@@ -43,11 +33,13 @@ pub record Engine : Type 0 where
   pub base : ℕ  -- the offset from which its registers are counted
   pub reset_bit : ℕ  -- its bit of the engine reset register
 
--- RCS and BCS
+-- RCS, BCS, VCS and VECS, in the order of their numbers
 abbrev pub engines : List Engine
 engines =
     record { number = 0; base = 0x2000; reset_bit = 1 }
     ∷ record { number = 1; base = 0x22000; reset_bit = 3 }
+    ∷ record { number = 2; base = 0x12000; reset_bit = 2 }
+    ∷ record { number = 3; base = 0x1A000; reset_bit = 4 }
     ∷ []
 
 abbrev pub id_of : Engine → EngineId
@@ -74,6 +66,22 @@ abbrev pub shared : ℕ → ℕ → Kind → (ℕ → Target) → ℕ → Row
 shared first dwords kind target reset =
     record { first = first; dwords = dwords; engine = None; kind = kind; target = target; reset = reset }
 
+-- ISR, IMR, IIR and IER of an interrupt group
+abbrev pub group_rows : ℕ → List Row
+group_rows first =
+    shared first 1 ReadOnly (to Interrupts) 0
+    ∷ shared (first + 4) 1 Plain (to Interrupts) 0xFFFFFFFF
+    ∷ shared (first + 8) 1 OnesClear (to Interrupts) 0
+    ∷ shared (first + 0xC) 1 Plain (to Interrupts) 0
+    ∷ []
+
+-- the groups 0, 1 and 3 under their master
+abbrev pub interrupt_rows : List Row
+interrupt_rows = shared 0x44200 1 TopBit (to Interrupts) 0 ∷ group_rows 0x44300 ++ group_rows 0x44310 ++ group_rows 0x44330
+
+abbrev pub reset_rows : List Row
+reset_rows = shared 0x941C 1 Acting (to EngineReset) 0 ∷ []
+
 -- force-wake
 abbrev pub force_wake_rows : List Row
 force_wake_rows =
@@ -83,16 +91,6 @@ force_wake_rows =
     ∷ shared 0xD88 1 (Acknowledges 0xA270) own 0
     ∷ shared 0xD84 1 (Acknowledges 0xA278) own 0
     ∷ shared 0x130044 1 (Acknowledges 0xA188) own 0
-    ∷ []
-
-abbrev pub reset_and_interrupt_rows : List Row
-reset_and_interrupt_rows =
-    shared 0x941C 1 Acting (to EngineReset) 0
-    ∷ shared 0x44200 1 TopBit (to Interrupts) 0  -- master
-    ∷ shared 0x44300 1 ReadOnly (to Interrupts) 0  -- ISR
-    ∷ shared 0x44304 1 Plain (to Interrupts) 0xFFFFFFFF  -- IMR
-    ∷ shared 0x44308 1 OnesClear (to Interrupts) 0  -- IIR
-    ∷ shared 0x4430C 1 Plain (to Interrupts) 0  -- IER
     ∷ []
 
 abbrev pub constant_row : ℕ → Constant → Row
@@ -105,7 +103,7 @@ pvinfo_rows =
     ∷ constant_row 0x78004 (Number 0x47765447)
     ∷ constant_row 0x78008 (Number 1)  -- version
     ∷ constant_row 0x7800C GuestNumber
-    ∷ constant_row 0x78010 (Number 0xC)  -- capabilities
+    ∷ constant_row 0x78010 (Number 0x1C)  -- capabilities
     ∷ constant_row 0x78040 LowBase
     ∷ constant_row 0x78044 LowSize
     ∷ constant_row 0x78048 HighBase
@@ -117,8 +115,11 @@ pvinfo_rows =
 
 -- ---- the whole table
 
+abbrev pub shared_rows : List Row
+shared_rows = interrupt_rows ++ reset_rows ++ force_wake_rows ++ pvinfo_rows
+
 abbrev pub registers : List Row
-registers = flat_map engine_rows engines ++ force_wake_rows ++ reset_and_interrupt_rows ++ pvinfo_rows
+registers = flat_map engine_rows engines ++ shared_rows
 
 abbrev pub covers : Row → ℕ → Bool
 covers row offset = nat_le row.first offset && nat_lt offset (row.first + 4 * row.dwords)
@@ -130,8 +131,9 @@ row_in rows offset = if offset % 4 == 0 then find (λ row. covers row offset) ro
 unfoldable pub row_at : ℕ → Option Row
 row_at offset = row_in registers offset
 
+-- Where there is no register, nothing is written.
 abbrev pub kind_of : Option Row → Kind
-kind_of None = Missing
+kind_of None = ReadOnly
 kind_of (Some row) = row.kind
 
 abbrev pub kind_at : ℕ → Kind
@@ -163,10 +165,10 @@ engine_at offset = engine_of (row_at offset)
 abbrev pub has_bit : ℕ → ℕ → Bool
 has_bit dword bit = bit_at dword bit == 1
 
--- Bit 0 resets every engine, and an engine's own bit that engine.
-abbrev pub resets_by : ℕ → Option Engine → Bool
-resets_by value None = false
-resets_by value (Some e) = has_bit value 0 || has_bit value e.reset_bit
+-- A value that is written there resets an engine where its bit 0 is set, or the engine's own bit.
+abbrev pub resets : ℕ → Engine → Bool
+resets value e = has_bit value 0 || has_bit value e.reset_bit
 
-abbrev pub resets : ℕ → ℕ → Bool
-resets value engine = resets_by value (find (λ e. e.number == engine) engines)
+-- which engines it resets, by number
+abbrev pub engines_reset : ℕ → List Bool
+engines_reset value = map (resets value) engines

@@ -18,6 +18,14 @@ pub enum Target {
     Absent,
 }
 
+/// What a read finds: the value of a register that is kept here, of a constant, of an acknowledged request or of
+/// an absent offset, which reads 0; or the part of the device that serves the register and is to be read.
+#[derive(Clone, Copy, Debug, PartialEq, Eq)]
+pub enum Lookup {
+    Value(u32),
+    Goes(Target),
+}
+
 /// What became of a write: the register file kept it, it did nothing, or it goes to the part of the
 /// device that serves the register.
 #[derive(Clone, Copy, Debug, PartialEq, Eq)]

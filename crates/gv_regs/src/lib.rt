@@ -1,14 +1,15 @@
 //! The registers of one guest's device: which there are, what reading and writing each does, and the
-//! register file of those that are kept here. `specs/Table.antt` is the register table.
+//! register file of those that are kept here. `specs/Table.antt` is the register table, and `table` the code's.
 #![tactic(auto)]
 
 mod constant;
 mod decode;
 mod effect;
 mod registers;
+mod table;
 
-pub use decode::{resets, target};
-pub use effect::{Effect, Target};
+pub use decode::{engines_reset, target};
+pub use effect::{Effect, Lookup, Target};
 pub use registers::Registers;
 
 #[cfg(test)]

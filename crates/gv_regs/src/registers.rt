@@ -1,8 +1,9 @@
-ghost use Rattle.std.specs.Prelude.{◌≡◌, ◌+◌, ◌≤◌};
-ghost use Rattle.gv_regs.specs.Registers.{map_of, register_read, register_written, effect_at, IsEffect, reset_registers, engine_reset, masked, HasMaskedBits};
+ghost use Rattle.std.specs.Prelude.{◌≡◌, ◌+◌, ◌<◌, ◌≤◌};
+ghost use Rattle.gv_regs.specs.Registers.{map_of, found_at, IsFound, register_read, register_written, effect_at, IsEffect, reset_registers, engine_reset, masked, HasMaskedBits};
 
-use crate::decode::{ENGINE_SLOTS, ENGINES, KEPT, Register, register_at};
-use crate::effect::Effect;
+use crate::decode::{Register, register_at};
+use crate::effect::{Effect, Lookup};
+use crate::table::{ENGINE_SLOTS, KEPT, Kind};
 use gv_types::{EngineId, GuestId, Ranges};
 use std::marker::Model;
 
@@ -25,7 +26,7 @@ impl Model for Registers {
 
     ghost view = { file_of };
 
-    ghost invariant = { λ s. AreRanges s.ranges × (length s.kept ≡ 17) };
+    ghost invariant = { λ s. AreRanges s.ranges × (length s.kept ≡ 29) };
 }
 
 impl Registers {
@@ -44,18 +45,32 @@ impl Registers {
         }
     }
 
-    /// The dword at an offset in bytes: that of a register that is kept here, a constant, or a request
-    /// that is acknowledged. It is 0 at each other offset, also where another part of the device serves
+    /// What a read at an offset in bytes finds: the value of a register that is kept here, of a constant or of
+    /// a request that is acknowledged, and 0 at an absent offset. `Goes` names the part of the device that serves
+    /// the register and is to be read.
+    pub fn lookup(&self, offset: u32) -> Lookup
+        ensures found { result ≡ found_at self.now.guest self.now.ranges (map_of self.now) offset }
+        ensures form { IsFound offset result }
+    {
+        match register_at(offset) {
+            Register::Own(kind, slot) => Lookup::Value(match kind {
+                Kind::Plain | Kind::Masked | Kind::Acknowledges(_) => self.kept[slot],
+                Kind::Fixed(constant) => constant.value(self.guest, &self.ranges),
+                _ => 0,
+            }),
+            Register::Elsewhere(target) => Lookup::Goes(target),
+            Register::Absent => Lookup::Value(0),
+        }
+    }
+
+    /// The dword at an offset in bytes, as `lookup` finds it. It is 0 where another part of the device serves
     /// the register.
     pub fn read(&self, offset: u32) -> u32
         ensures { result ≡ register_read self.now.guest self.now.ranges (map_of self.now) offset }
     {
-        match register_at(offset) {
-            Register::Plain(slot) | Register::Masked(slot) | Register::Acknowledgement(slot) => {
-                self.kept[slot]
-            }
-            Register::Constant(constant) => constant.value(self.guest, &self.ranges),
-            Register::Elsewhere(_) | Register::Absent => 0,
+        match self.lookup(offset) {
+            Lookup::Value(value) => value,
+            Lookup::Goes(_) => 0,
         }
     }
 
@@ -70,31 +85,28 @@ impl Registers {
         ensures ranges { self.new.ranges ≡ self.old.ranges }
     {
         match register_at(offset) {
-            Register::Plain(slot) => {
+            Register::Own(Kind::Plain, slot) => {
                 self.kept[slot] = value;
                 Effect::Kept
             }
-            Register::Masked(slot) => {
+            Register::Own(Kind::Masked, slot) => {
                 self.kept[slot] = masked(self.kept[slot], value);
                 Effect::Kept
             }
-            Register::Acknowledgement(_) | Register::Constant(_) | Register::Absent =>
-                Effect::Nothing,
+            Register::Own(..) | Register::Absent => Effect::Nothing,
             Register::Elsewhere(target) => Effect::Goes(target),
         }
     }
 
-    /// As after a reset of the engine: its registers have their reset values. Engines that aren't built
-    /// have none.
+    /// As after a reset of the engine: its registers have their reset values.
     pub fn reset_engine(&mut self, engine: EngineId)
+        requires { engine.0 < 4 }
         ensures map { map_of self.new ≡ engine_reset engine.0 (map_of self.old) }
         ensures guest { self.new.guest ≡ self.old.guest }
         ensures ranges { self.new.ranges ≡ self.old.ranges }
     {
-        if engine.0 < ENGINES {
-            let first = engine.0 as usize * ENGINE_SLOTS;
-            self.kept[first..first + ENGINE_SLOTS].fill(0);
-        }
+        let first = engine.0 as usize * ENGINE_SLOTS;
+        self.kept[first..first + ENGINE_SLOTS].fill(0);
     }
 
     /// As after a function reset: each register has its reset value.

@@ -1,10 +1,14 @@
-use crate::{Effect, Registers, Target, resets, target};
+use crate::{Effect, Lookup, Registers, Target, engines_reset, target};
 use gv_types::{EngineId, GuestId, Ranges, Span};
 use std::test::Fail;
 
-const RCS: EngineId = EngineId(0);
+const RCS: EngineId = EngineId::RCS;
 
-const BCS: EngineId = EngineId(1);
+const BCS: EngineId = EngineId::BCS;
+
+const VCS: EngineId = EngineId::VCS;
+
+const VECS: EngineId = EngineId::VECS;
 
 /// Guest 1 of two that ask for 16 low and 8 high pages each.
 fn registers() -> Registers {
@@ -39,8 +43,15 @@ fn targets_are_those_of_the_table(rt: HostRuntime) -> Result<(), Fail> {
         (0x2600, Target::General(RCS, 0)),
         (0x2_267c, Target::General(BCS, 31)),
         (0x2_2680, Target::Absent),
-        (0x1_2030, Target::Absent),
-        (0x1_a600, Target::Absent),
+        (0x1_2030, Target::Own),
+        (0x1_2234, Target::Absent),
+        (0x1_23a0, Target::StatusPointer(VCS)),
+        (0x1_a230, Target::Elsp(VECS)),
+        (0x1_a600, Target::General(VECS, 0)),
+        (0x1_a67c, Target::General(VECS, 31)),
+        (0x1_2370, Target::Status(VCS, 0)),
+        (0x1_3030, Target::Absent),
+        (0x2_a600, Target::Absent),
         (0xa270, Target::Own),
         (0xa278, Target::Own),
         (0xa188, Target::Own),
@@ -51,7 +62,13 @@ fn targets_are_those_of_the_table(rt: HostRuntime) -> Result<(), Fail> {
         (0x4_4200, Target::Interrupts),
         (0x4_4300, Target::Interrupts),
         (0x4_430c, Target::Interrupts),
-        (0x4_4310, Target::Absent),
+        (0x4_4310, Target::Interrupts),
+        (0x4_431c, Target::Interrupts),
+        (0x4_4320, Target::Absent),
+        (0x4_432c, Target::Absent),
+        (0x4_433c, Target::Interrupts),
+        (0x4_4340, Target::Absent),
+        (0x4_4204, Target::Absent),
         (0x7_8000, Target::Own),
         (0x7_8014, Target::Absent),
         (0x7_8050, Target::Own),
@@ -97,8 +114,12 @@ fn registers_are_read_and_written_by_their_kinds(rt: HostRuntime) -> Result<(), 
         1,
         "the blitter's request is acknowledged"
     );
+    assert_eq!(rt; registers.write(0x1_2030, 9), Effect::Kept);
     registers.reset_engine(RCS);
-    registers.reset_engine(EngineId(2));
+    registers.reset_engine(VECS);
+    assert_eq!(rt; registers.read(0x1_2030), 9);
+    registers.reset_engine(VCS);
+    assert_eq!(rt; registers.read(0x1_2030), 0);
     for (offset, reads) in [
         (0x2030, 0),
         (0x229c, 0),
@@ -127,7 +148,7 @@ fn pvinfo_tells_the_guest_its_ranges(rt: HostRuntime) -> Result<(), Fail> {
         (0x7_8004, 0x4776_5447),
         (0x7_8008, 1),
         (0x7_800c, 2),
-        (0x7_8010, 0xc),
+        (0x7_8010, 0x1c),
         (0x7_8040, 0x1_0000),
         (0x7_8044, 0x1_0000),
         (0x7_8048, 0x1000_8000),
@@ -153,18 +174,33 @@ fn pvinfo_tells_the_guest_its_ranges(rt: HostRuntime) -> Result<(), Fail> {
 }
 
 #[test]
-fn engine_reset_names_engines_by_bits(rt: HostRuntime) -> Result<(), Fail> {
-    for (value, rcs, bcs) in [
-        (0, false, false),
-        (1, true, true),
-        (2, true, false),
-        (8, false, true),
-        (0xa, true, true),
-        (0xffff_fff4, false, false),
+fn a_read_finds_a_value_or_the_part_that_serves_it(rt: HostRuntime) {
+    let registers = registers();
+    for (offset, found) in [
+        (0x7_800c, Lookup::Value(2)),
+        (0x2030, Lookup::Value(0)),
+        (0x2234, Lookup::Value(0)),
+        (0x4_4338, Lookup::Goes(Target::Interrupts)),
+        (0x1_a230, Lookup::Goes(Target::Elsp(VECS))),
+        (0x941c, Lookup::Goes(Target::EngineReset)),
     ] {
-        assert_eq!(rt; resets(value, RCS), rcs, "{value:x}");
-        assert_eq!(rt; resets(value, BCS), bcs, "{value:x}");
+        assert_eq!(rt; registers.lookup(offset), found, "{offset:x}");
     }
-    assert_eq!(rt; resets(1, EngineId(2)), false);
-    Ok(())
+}
+
+#[test]
+fn engine_reset_names_engines_by_bits(rt: HostRuntime) {
+    // RCS, BCS, VCS and VECS
+    for (value, engines) in [
+        (0, [false, false, false, false]),
+        (1, [true, true, true, true]),
+        (2, [true, false, false, false]),
+        (4, [false, false, true, false]),
+        (8, [false, true, false, false]),
+        (0x10, [false, false, false, true]),
+        (0xa, [true, true, false, false]),
+        (0xffff_ffe0, [false, false, false, false]),
+    ] {
+        assert_eq!(rt; engines_reset(value), engines, "{value:x}");
+    }
 }

@@ -1,5 +1,6 @@
+use Rattle.std.proofs.Common.{refl, replicate}
 use Rattle.gv_regs.proofs.Maps.{reset_is}
 use Rattle.gv_regs.proofs.registers.Registers.new.Goals as goal
 
 pub returns-clause-map : goal.returns-clause-map
-returns-clause-map c = reset_is
+returns-clause-map c = reset_is (replicate 29 0) refl
