@@ -1,5 +1,5 @@
 -- What a private device makes of an event: what is left of it, and what it replies.
-use Rattle.std.specs.Prelude.{ℕ, Bool, true, false, List, [], Option, None, Some}
+use Rattle.std.specs.Prelude.{ℕ, List, [], None}
 use Rattle.gv_types.specs.Memory.{memory_read, memory_write}
 use Rattle.gv_types.specs.declared.event.Event.{Event}
 use Rattle.gv_types.specs.declared.event.Event.TheVariants.{Read, Write, Turn, Move, Reset}
@@ -32,11 +32,6 @@ guest_of (Move guest frame) = guest
 guest_of (Reset guest) = guest
 guest_of event = record { 0 = 0 }
 
--- where an interrupt is injected, the pending bits (IIR) then
-abbrev pub irq_where : Bool → ℕ → Option ℕ
-irq_where true iir = Some iir
-irq_where false iir = None
-
 -- What a device makes of an event: the reply, the device that is left, and the commands that ran.
 pub record Answered : Type 0 where
   pub reply : Reply
@@ -49,7 +44,7 @@ answered left guest answer = record { reply = record { guest = guest; answer = a
 
 abbrev pub answered_write : GuestId → Written → Answered
 answered_write guest w = record {
-  reply = record { guest = guest; answer = Nothing; irq = irq_where w.injected w.device.interrupts.group.iir; failsafe = None };
+  reply = record { guest = guest; answer = Nothing; irq = w.irq; failsafe = None };
   left = w.device;
   ran = [];
 }

@@ -8,22 +8,19 @@ ghost use Rattle.gv_guest.specs.Placed.{Stands, nowhere};
 ghost use Rattle.gv_sggtt.specs.Mirror.{AreAbsent};
 ghost use Rattle.gv_sggtt.specs.Table.{table_grant};
 ghost use Rattle.gv_vgpu.specs.Access.{IsAccess, end_of};
-ghost use Rattle.gv_vgpu.specs.Device.{new_device, function_reset, aperture_frame, aperture_read, aperture_written, table_at, table_read, table_written, dword_read, dword_written, dwords_read, dwords_written, one_engine_reset, engines_reset, range_read, range_written};
-ghost use Rattle.gv_vgpu.specs.Step.{guest_of, value_read, value_written, answer, irq_where};
+ghost use Rattle.gv_vgpu.specs.Device.{new_device, function_reset, aperture_frame, aperture_read, aperture_written, table_at, table_read, table_written, dword_read, dword_written, dwords_read, dwords_written, one_engine_reset, device_reset, range_read, range_written};
+ghost use Rattle.gv_vgpu.specs.Step.{guest_of, value_read, value_written, answer};
 
 use gv_gpu::{Gpu, GpuFailed, half, with_half};
 use gv_guest::Memory;
 use gv_irq::Irq;
-use gv_regs::{Registers, Target, resets, target};
+use gv_regs::{Effect, Lookup, Registers, Target, engines_reset};
 use gv_sggtt::GlobalTable;
 use gv_types::{Answer, EngineId, Event, GuestId, OutOfMemory, Place, Ranges, Reply, Stop, Width};
 use std::alloc::Global;
 
 /// Where the global table begins in the register range.
 const TABLE_AT: u64 = 0x80_0000;
-
-/// The offset of the register of pending interrupt bits, IIR.
-const IIR: u32 = 0x4_4308;
 
 /// One guest's device, over the shared device: clauses see the private device that it stands for
 /// (`private_of`), and that it stands there (`Holds`).
@@ -166,48 +163,49 @@ impl Vgpu {
         requires ranges { self.now.registers.ranges ≡ self.now.table.ranges }
         ensures { (d : Device) → result ≡ dword_read (idle_device d self.now) offset }
     {
-        match target(offset) {
-            Target::Interrupts => self.interrupts.read(offset),
-            _ => self.registers.read(offset),
+        match self.registers.lookup(offset) {
+            Lookup::Value(value) => value,
+            Lookup::Goes(Target::Interrupts) => self.interrupts.read(offset),
+            Lookup::Goes(_) => 0,
         }
     }
 
-    // Resets the registers of the engine, where the value names it.
-    fn reset_if_named(&mut self, value: u32, engine: EngineId)
+    // Resets the registers of an engine, where it is named.
+    fn reset_if_named(&mut self, named: [bool; 4], engine: EngineId)
+        requires { engine.0 < 4 }
         ensures device { (d : Device) → idle_device d self.new
-            ≡ record (idle_device d self.old) { registers = one_engine_reset value engine.0 (idle_device d self.old).registers } }
+            ≡ record (idle_device d self.old) { registers = one_engine_reset named engine.0 (idle_device d self.old).registers } }
         ensures kept { KeepsTables self.old self.new }
     {
-        if resets(value, engine) {
+        if named[engine.0 as usize] {
             self.registers.reset_engine(engine);
         }
     }
 
-    // Resets the registers of each engine that the value names.
-    fn reset_engines(&mut self, value: u32)
-        ensures device { (d : Device) → idle_device d self.new ≡ engines_reset (idle_device d self.old) value }
+    // Resets each engine that is named.
+    fn reset_engines(&mut self, named: [bool; 4])
+        ensures device { (d : Device) → idle_device d self.new ≡ device_reset named (idle_device d self.old) }
         ensures kept { KeepsTables self.old self.new }
     {
-        self.reset_if_named(value, EngineId(0));
-        self.reset_if_named(value, EngineId(1));
+        self.reset_if_named(named, EngineId::RCS);
+        self.reset_if_named(named, EngineId::BCS);
+        self.reset_if_named(named, EngineId::VCS);
+        self.reset_if_named(named, EngineId::VECS);
     }
 
-    // Writes a dword of the registers. Answers whether an interrupt is injected.
-    fn write_dword(&mut self, offset: u32, value: u32) -> bool
-        ensures injected { (d : Device) → result ≡ (dword_written (idle_device d self.old) offset value).injected }
+    // Writes a dword of the registers. Where an interrupt is injected, it answers IIR of its group.
+    fn write_dword(&mut self, offset: u32, value: u32) -> Option<u32>
+        ensures irq { (d : Device) → result ≡ (dword_written (idle_device d self.old) offset value).irq }
         ensures device { (d : Device) → idle_device d self.new ≡ (dword_written (idle_device d self.old) offset value).device }
         ensures kept { KeepsTables self.old self.new }
     {
-        match target(offset) {
-            Target::Interrupts => self.interrupts.write(offset, value),
-            Target::EngineReset => {
-                self.reset_engines(value);
-                false
+        match self.registers.write(offset, value) {
+            Effect::Goes(Target::Interrupts) => self.interrupts.write(offset, value),
+            Effect::Goes(Target::EngineReset) => {
+                self.reset_engines(engines_reset(value));
+                None
             }
-            _ => {
-                let _ = self.registers.write(offset, value);
-                false
-            }
+            _ => None,
         }
     }
 
@@ -225,11 +223,11 @@ impl Vgpu {
         }
     }
 
-    // Writes one dword of the registers, or two. Answers whether an interrupt is injected.
-    fn write_dwords(&mut self, width: Width, offset: u32, value: u64) -> bool
+    // Writes one dword of the registers, or two. Where an interrupt is injected, it answers IIR of its group.
+    fn write_dwords(&mut self, width: Width, offset: u32, value: u64) -> Option<u32>
         requires below { offset < table_at }
         requires fits { value ≤ all_ones width }
-        ensures injected { (d : Device) → result ≡ (dwords_written (idle_device d self.old) width offset value).injected }
+        ensures irq { (d : Device) → result ≡ (dwords_written (idle_device d self.old) width offset value).irq }
         ensures device { (d : Device) → idle_device d self.new ≡ (dwords_written (idle_device d self.old) width offset value).device }
         ensures kept { KeepsTables self.old self.new }
     {
@@ -238,7 +236,7 @@ impl Vgpu {
             Width::Eight => {
                 let low = self.write_dword(offset, (value % 0x1_0000_0000) as u32);
                 let high = self.write_dword(offset + 4, (value / 0x1_0000_0000) as u32);
-                low || high
+                low.or(high)
             }
         }
     }
@@ -257,12 +255,12 @@ impl Vgpu {
         }
     }
 
-    // A write of the register range. Answers whether an interrupt is injected.
-    fn write_range<G: Gpu>(&mut self, gpu: &mut G, width: Width, offset: u64, value: u64) -> bool
+    // A write of the register range. Where an interrupt is injected, it answers IIR of its group.
+    fn write_range<G: Gpu>(&mut self, gpu: &mut G, width: Width, offset: u64, value: u64) -> Option<u32>
         requires holds { HoldsTables (G.state gpu.old) self.old }
         requires below { offset < 0x1000000 }
         requires fits { value ≤ all_ones width }
-        ensures injected { result ≡ (range_written (idle_device (G.state gpu.old) self.old) width offset value).injected }
+        ensures irq { result ≡ (range_written (idle_device (G.state gpu.old) self.old) width offset value).irq }
         ensures device { idle_device (G.state gpu.new) self.new ≡ (range_written (idle_device (G.state gpu.old) self.old) width offset value).device }
         ensures holds { HoldsTables (G.state gpu.new) self.new }
         ensures guest { SameGuest self.old self.new }
@@ -272,7 +270,7 @@ impl Vgpu {
             return self.write_dwords(width, offset as u32, value);
         }
         self.write_table(gpu, width, offset, value);
-        false
+        None
     }
 
     fn read<G: Gpu>(&self, gpu: &G, place: Place, width: Width, at: u64) -> u64
@@ -288,7 +286,7 @@ impl Vgpu {
         }
     }
 
-    // Answers whether an interrupt is injected.
+    // Where an interrupt is injected, it answers IIR of its group.
     fn write<G: Gpu>(
         &mut self,
         gpu: &mut G,
@@ -296,12 +294,12 @@ impl Vgpu {
         width: Width,
         at: u64,
         value: u64,
-    ) -> bool
+    ) -> Option<u32>
         requires holds { HoldsTables (G.state gpu.old) self.old }
         requires aligned { at % bytes_of width ≡ 0 }
         requires below { at < end_of place }
         requires fits { value ≤ all_ones width }
-        ensures injected { result ≡ (value_written (idle_device (G.state gpu.old) self.old) place width at value).injected }
+        ensures irq { result ≡ (value_written (idle_device (G.state gpu.old) self.old) place width at value).irq }
         ensures device { idle_device (G.state gpu.new) self.new ≡ (value_written (idle_device (G.state gpu.old) self.old) place width at value).device }
         ensures holds { HoldsTables (G.state gpu.new) self.new }
         ensures guest { SameGuest self.old self.new }
@@ -310,24 +308,13 @@ impl Vgpu {
         match place {
             Place::Memory => {
                 self.write_memory(gpu, width, at, value);
-                false
+                None
             }
             Place::Registers => self.write_range(gpu, width, at, value),
             Place::Aperture => {
                 self.write_aperture(gpu, width, at, value);
-                false
+                None
             }
-        }
-    }
-
-    // The pending interrupt bits, where an interrupt was injected.
-    fn irq(&self, injected: bool) -> Option<u32>
-        ensures { result ≡ irq_where injected self.now.interrupts.group.iir }
-    {
-        if injected {
-            Some(self.interrupts.read(IIR))
-        } else {
-            None
         }
     }
 
@@ -365,11 +352,11 @@ impl Vgpu {
                 at,
                 value,
             } => {
-                let injected = self.write(gpu, *place, *width, *at, *value);
+                let irq = self.write(gpu, *place, *width, *at, *value);
                 Ok(Reply {
                     guest: *guest,
                     answer: Answer::Nothing,
-                    irq: self.irq(injected),
+                    irq,
                     failsafe: None,
                 })
             }
