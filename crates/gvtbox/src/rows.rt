@@ -110,7 +110,7 @@ const ROWS: [Row; 20] = [
         name: "the PVINFO page",
         script: "guest 20 10 8\nguest 20 10 8\ni8 1 78000\ni4 1 78008\ni4 1 7800c\ni4 1 78010\ni4 1 78040\ni4 1 78044\ni4 1 78048\ni4 1 7804c\nend\n",
         status: Status::Done,
-        report: "1 i8 78000 4776544776544776\n1 i4 78008 1\n1 i4 7800c 2\n1 i4 78010 c\n1 i4 78040 10000\n1 i4 78044 10000\n1 i4 78048 10008000\n1 i4 7804c 8000\ndone\n",
+        report: "1 i8 78000 4776544776544776\n1 i4 78008 1\n1 i4 7800c 2\n1 i4 78010 1c\n1 i4 78040 10000\n1 i4 78044 10000\n1 i4 78048 10008000\n1 i4 7804c 8000\ndone\n",
     },
     Row {
         name: "an engine reset and a function reset",
