@@ -1,7 +1,8 @@
 -- One guest's private device, as if nothing were shared: its memory, its entries of the global table
 -- (GGTT), its registers and its interrupts, and what each access reads or leaves of them. It knows no host
 -- page and no other guest.
-use Rattle.std.specs.Prelude.{ℕ, ◌+◌, ◌-◌, ◌*◌, ◌/◌, ◌%◌, ◌^◌, List, Bool, false, ◌||◌, Option, None, Some, nat_lt, if◌then◌else◌, length}
+use Rattle.std.specs.Prelude.{ℕ, ◌+◌, ◌-◌, ◌*◌, ◌/◌, ◌%◌, ◌^◌, List, Bool, false, Option, None, Some, nat_lt, if◌then◌else◌, length, slice_index_or}
+use Rattle.std.specs.Option.{option_or}
 use Rattle.gv_types.specs.Memory.{Memory, memory_read, memory_write, zero_memory, half_of, with_half}
 use Rattle.gv_types.specs.declared.event.Width.{Width}
 use Rattle.gv_types.specs.declared.event.Width.TheVariants.{Four, Eight}
@@ -9,9 +10,9 @@ use Rattle.gv_types.specs.declared.ranges.Ranges.{Ranges}
 use Rattle.gv_entry.specs.Global.{entry_of, with_entry, zero_entries}
 use Rattle.gv_entry.specs.Grants.{global_grant, nothing_guarded}
 use Rattle.gv_entry.specs.Ranges.{is_in}
-use Rattle.gv_irq.specs.Irq.{Interrupts as InterruptRegisters, reset_irq, irq_read, irq_written, injects_written}
+use Rattle.gv_irq.specs.Irq.{Interrupts as InterruptRegisters, reset_irq, irq_read, irq_written, writing_tells}
 use Rattle.gv_regs.specs.Registers.{register_read, register_written, reset_registers, engine_reset}
-use Rattle.gv_regs.specs.Table.{target_at, resets}
+use Rattle.gv_regs.specs.Table.{target_at, engines_reset}
 use Rattle.gv_regs.specs.declared.effect.Target.{Target}
 use Rattle.gv_regs.specs.declared.effect.Target.TheVariants.{Interrupts, EngineReset}
 
@@ -92,24 +93,24 @@ dword_read_by target p offset = register_read p.number p.ranges p.registers offs
 abbrev pub dword_read : PrivateDevice → ℕ → ℕ
 dword_read p offset = dword_read_by (target_at offset) p offset
 
--- what a write leaves, and whether an interrupt is injected
+-- What a write leaves, and where it injects an interrupt, IIR of its group afterwards.
 pub record Written : Type 0 where
   pub device : PrivateDevice
-  pub injected : Bool
+  pub irq : Option ℕ
 
 abbrev pub quietly : PrivateDevice → Written
-quietly p = record { device = p; injected = false }
+quietly p = record { device = p; irq = None }
 
-abbrev pub one_engine_reset : ℕ → ℕ → (ℕ → ℕ) → ℕ → ℕ
-one_engine_reset value engine registers = if resets value engine then engine_reset engine registers else registers
+-- Engine reset: the registers of each engine that is named have their reset values.
+abbrev pub one_engine_reset : List Bool → ℕ → (ℕ → ℕ) → ℕ → ℕ
+one_engine_reset named engine registers = if slice_index_or named engine false then engine_reset engine registers else registers
 
--- Engine reset: the registers of each engine that the value names have their reset values.
-abbrev pub engines_reset : PrivateDevice → ℕ → PrivateDevice
-engines_reset p value = record p { registers = one_engine_reset value 1 (one_engine_reset value 0 p.registers) }
+abbrev pub registers_reset : List Bool → (ℕ → ℕ) → ℕ → ℕ
+registers_reset named registers = one_engine_reset named 3 (one_engine_reset named 2 (one_engine_reset named 1 (one_engine_reset named 0 registers)))
 
 abbrev pub dword_written_by : Target → PrivateDevice → ℕ → ℕ → Written
-dword_written_by Interrupts p offset value = record { device = record p { interrupts = irq_written p.interrupts offset value }; injected = injects_written p.interrupts offset value }
-dword_written_by EngineReset p offset value = quietly (engines_reset p value)
+dword_written_by Interrupts p offset value = record { device = record p { interrupts = irq_written p.interrupts offset value }; irq = writing_tells p.interrupts offset value }
+dword_written_by EngineReset p offset value = quietly (record p { registers = registers_reset (engines_reset value) p.registers })
 dword_written_by target p offset value = quietly (record p { registers = register_written p.registers offset value })
 
 abbrev pub dword_written : PrivateDevice → ℕ → ℕ → Written
@@ -117,7 +118,7 @@ dword_written p offset value = dword_written_by (target_at offset) p offset valu
 
 -- one write after another
 abbrev pub and_then : Written → (PrivateDevice → Written) → Written
-and_then first next = record (next first.device) { injected = first.injected || (next first.device).injected }
+and_then first next = record (next first.device) { irq = option_or first.irq (next first.device).irq }
 
 -- An access of eight bytes is that of the low dword, then that of the high one.
 abbrev pub dwords_read : PrivateDevice → Width → ℕ → ℕ

@@ -1,5 +1,5 @@
 -- What a private device makes of an event: what is left of it, and what it replies.
-use Rattle.std.specs.Prelude.{ℕ, Bool, true, false, Option, None, Some}
+use Rattle.std.specs.Prelude.{ℕ, None}
 use Rattle.gv_types.specs.Memory.{memory_read, memory_write}
 use Rattle.gv_types.specs.declared.event.Event.{Event}
 use Rattle.gv_types.specs.declared.event.Event.TheVariants.{Read, Write, Move, Reset}
@@ -42,13 +42,5 @@ guest_of (Move guest frame) = guest
 guest_of (Reset guest) = guest
 guest_of event = record { 0 = 0 }
 
--- where an interrupt is injected, the pending bits (IIR) then
-abbrev pub irq_where : Bool → ℕ → Option ℕ
-irq_where true iir = Some iir
-irq_where false iir = None
-
-abbrev pub irq_of : Written → Option ℕ
-irq_of written = irq_where written.injected written.device.interrupts.group.iir
-
 abbrev pub reply_of : PrivateDevice → Event → Reply
-reply_of p event = record { guest = guest_of event; answer = answer_of p event; irq = irq_of (written_by p event); failsafe = None }
+reply_of p event = record { guest = guest_of event; answer = answer_of p event; irq = (written_by p event).irq; failsafe = None }

@@ -7,22 +7,19 @@ ghost use Rattle.gv_guest.specs.Placed.{Stands, nowhere};
 ghost use Rattle.gv_sggtt.specs.Mirror.{AreAbsent};
 ghost use Rattle.gv_sggtt.specs.Table.{table_grant};
 ghost use Rattle.gv_vgpu.specs.Access.{IsAccess, end_of};
-ghost use Rattle.gv_vgpu.specs.Device.{new_device, function_reset, aperture_frame, aperture_read, aperture_written, table_at, table_read, table_written, dword_read, dword_written, dwords_read, dwords_written, one_engine_reset, engines_reset, range_read, range_written};
-ghost use Rattle.gv_vgpu.specs.Step.{guest_of, value_read, value_written, device_after, reply_of, irq_where};
+ghost use Rattle.gv_vgpu.specs.Device.{new_device, function_reset, aperture_frame, aperture_read, aperture_written, table_at, table_read, table_written, dword_read, dword_written, dwords_read, dwords_written, one_engine_reset, registers_reset, range_read, range_written};
+ghost use Rattle.gv_vgpu.specs.Step.{guest_of, value_read, value_written, device_after, reply_of};
 
 use gv_gpu::{Gpu, GpuFailed, half, with_half};
 use gv_guest::Memory;
 use gv_irq::Irq;
-use gv_regs::{Registers, Target, resets, target};
+use gv_regs::{Effect, Lookup, Registers, Target, engines_reset};
 use gv_sggtt::GlobalTable;
 use gv_types::{Answer, EngineId, Event, GuestId, OutOfMemory, Place, Ranges, Reply, Stop, Width};
 use std::alloc::Global;
 
 /// Where the global table begins in the register range.
 const TABLE_AT: u64 = 0x80_0000;
-
-/// The offset of the register of pending interrupt bits, IIR.
-const IIR: u32 = 0x4_4308;
 
 /// One guest's device, over the shared device: clauses see the private device that it stands for
 /// (`private_of`), and that it stands there (`Holds`).
@@ -170,48 +167,49 @@ impl Vgpu {
         requires ranges { self.now.registers.ranges ≡ self.now.table.ranges }
         ensures { (d : Device) → result ≡ dword_read (private_of d self.now) offset }
     {
-        match target(offset) {
-            Target::Interrupts => self.interrupts.read(offset),
-            _ => self.registers.read(offset),
+        match self.registers.lookup(offset) {
+            Lookup::Value(value) => value,
+            Lookup::Goes(Target::Interrupts) => self.interrupts.read(offset),
+            Lookup::Goes(_) => 0,
         }
     }
 
-    // Resets the registers of the engine, where the value names it.
-    fn reset_if_named(&mut self, value: u32, engine: EngineId)
+    // Resets the registers of each engine that is named.
+    fn reset_engines(&mut self, named: [bool; 4])
         ensures device { (d : Device) → private_of d self.new
-            ≡ record (private_of d self.old) { registers = one_engine_reset value engine.0 (private_of d self.old).registers } }
+            ≡ record (private_of d self.old) { registers = registers_reset named (private_of d self.old).registers } }
         ensures kept { KeepsTables self.old self.new }
     {
-        if resets(value, engine) {
+        self.reset_if_named(named, EngineId::RCS);
+        self.reset_if_named(named, EngineId::BCS);
+        self.reset_if_named(named, EngineId::VCS);
+        self.reset_if_named(named, EngineId::VECS);
+    }
+
+    fn reset_if_named(&mut self, named: [bool; 4], engine: EngineId)
+        requires { engine.0 < 4 }
+        ensures device { (d : Device) → private_of d self.new
+            ≡ record (private_of d self.old) { registers = one_engine_reset named engine.0 (private_of d self.old).registers } }
+        ensures kept { KeepsTables self.old self.new }
+    {
+        if named[engine.0 as usize] {
             self.registers.reset_engine(engine);
         }
     }
 
-    // Resets the registers of each engine that the value names.
-    fn reset_engines(&mut self, value: u32)
-        ensures device { (d : Device) → private_of d self.new ≡ engines_reset (private_of d self.old) value }
-        ensures kept { KeepsTables self.old self.new }
-    {
-        self.reset_if_named(value, EngineId(0));
-        self.reset_if_named(value, EngineId(1));
-    }
-
-    // Writes a dword of the registers. Answers whether an interrupt is injected.
-    fn write_dword(&mut self, offset: u32, value: u32) -> bool
-        ensures injected { (d : Device) → result ≡ (dword_written (private_of d self.old) offset value).injected }
+    // Writes a dword of the registers. Where an interrupt is injected, it answers IIR of its group.
+    fn write_dword(&mut self, offset: u32, value: u32) -> Option<u32>
+        ensures irq { (d : Device) → result ≡ (dword_written (private_of d self.old) offset value).irq }
         ensures device { (d : Device) → private_of d self.new ≡ (dword_written (private_of d self.old) offset value).device }
         ensures kept { KeepsTables self.old self.new }
     {
-        match target(offset) {
-            Target::Interrupts => self.interrupts.write(offset, value),
-            Target::EngineReset => {
-                self.reset_engines(value);
-                false
+        match self.registers.write(offset, value) {
+            Effect::Goes(Target::Interrupts) => self.interrupts.write(offset, value),
+            Effect::Goes(Target::EngineReset) => {
+                self.reset_engines(engines_reset(value));
+                None
             }
-            _ => {
-                let _ = self.registers.write(offset, value);
-                false
-            }
+            _ => None,
         }
     }
 
@@ -229,11 +227,11 @@ impl Vgpu {
         }
     }
 
-    // Writes one dword of the registers, or two. Answers whether an interrupt is injected.
-    fn write_dwords(&mut self, width: Width, offset: u32, value: u64) -> bool
+    // Writes one dword of the registers, or two. Where an interrupt is injected, it answers IIR of its group.
+    fn write_dwords(&mut self, width: Width, offset: u32, value: u64) -> Option<u32>
         requires below { offset < table_at }
         requires fits { value ≤ all_ones width }
-        ensures injected { (d : Device) → result ≡ (dwords_written (private_of d self.old) width offset value).injected }
+        ensures irq { (d : Device) → result ≡ (dwords_written (private_of d self.old) width offset value).irq }
         ensures device { (d : Device) → private_of d self.new ≡ (dwords_written (private_of d self.old) width offset value).device }
         ensures kept { KeepsTables self.old self.new }
     {
@@ -242,7 +240,7 @@ impl Vgpu {
             Width::Eight => {
                 let low = self.write_dword(offset, (value % 0x1_0000_0000) as u32);
                 let high = self.write_dword(offset + 4, (value / 0x1_0000_0000) as u32);
-                low || high
+                low.or(high)
             }
         }
     }
@@ -261,12 +259,18 @@ impl Vgpu {
         }
     }
 
-    // A write of the register range. Answers whether an interrupt is injected.
-    fn write_range<G: Gpu>(&mut self, gpu: &mut G, width: Width, offset: u64, value: u64) -> bool
+    // A write of the register range. Where an interrupt is injected, it answers IIR of its group.
+    fn write_range<G: Gpu>(
+        &mut self,
+        gpu: &mut G,
+        width: Width,
+        offset: u64,
+        value: u64,
+    ) -> Option<u32>
         requires holds { Holds (G.state gpu.old) self.old }
         requires below { offset < 0x1000000 }
         requires fits { value ≤ all_ones width }
-        ensures injected { result ≡ (range_written (private_of (G.state gpu.old) self.old) width offset value).injected }
+        ensures irq { result ≡ (range_written (private_of (G.state gpu.old) self.old) width offset value).irq }
         ensures device { private_of (G.state gpu.new) self.new ≡ (range_written (private_of (G.state gpu.old) self.old) width offset value).device }
         ensures holds { Holds (G.state gpu.new) self.new }
         ensures guest { SameGuest self.old self.new }
@@ -278,7 +282,7 @@ impl Vgpu {
             return self.write_dwords(width, offset as u32, value);
         }
         self.write_table(gpu, width, offset, value);
-        false
+        None
     }
 
     fn read<G: Gpu>(&self, gpu: &G, place: Place, width: Width, at: u64) -> u64
@@ -294,7 +298,7 @@ impl Vgpu {
         }
     }
 
-    // Answers whether an interrupt is injected.
+    // Where an interrupt is injected, it answers IIR of its group.
     fn write<G: Gpu>(
         &mut self,
         gpu: &mut G,
@@ -302,12 +306,12 @@ impl Vgpu {
         width: Width,
         at: u64,
         value: u64,
-    ) -> bool
+    ) -> Option<u32>
         requires holds { Holds (G.state gpu.old) self.old }
         requires aligned { at % bytes_of width ≡ 0 }
         requires below { at < end_of place }
         requires fits { value ≤ all_ones width }
-        ensures injected { result ≡ (value_written (private_of (G.state gpu.old) self.old) place width at value).injected }
+        ensures irq { result ≡ (value_written (private_of (G.state gpu.old) self.old) place width at value).irq }
         ensures device { private_of (G.state gpu.new) self.new ≡ (value_written (private_of (G.state gpu.old) self.old) place width at value).device }
         ensures holds { Holds (G.state gpu.new) self.new }
         ensures guest { SameGuest self.old self.new }
@@ -318,24 +322,13 @@ impl Vgpu {
         match place {
             Place::Memory => {
                 self.write_memory(gpu, width, at, value);
-                false
+                None
             }
             Place::Registers => self.write_range(gpu, width, at, value),
             Place::Aperture => {
                 self.write_aperture(gpu, width, at, value);
-                false
+                None
             }
-        }
-    }
-
-    // The pending interrupt bits, where an interrupt was injected.
-    fn irq(&self, injected: bool) -> Option<u32>
-        ensures { result ≡ irq_where injected self.now.interrupts.group.iir }
-    {
-        if injected {
-            Some(self.interrupts.read(IIR))
-        } else {
-            None
         }
     }
 
@@ -377,11 +370,11 @@ impl Vgpu {
                 at,
                 value,
             } => {
-                let injected = self.write(gpu, *place, *width, *at, *value);
+                let irq = self.write(gpu, *place, *width, *at, *value);
                 Ok(Reply {
                     guest: *guest,
                     answer: Answer::Nothing,
-                    irq: self.irq(injected),
+                    irq,
                     failsafe: None,
                 })
             }
