@@ -232,9 +232,9 @@ pub fn interrupt_bit(engine: EngineId, bit: u8) -> u8
     ensures group { result / 32 ≢ 2 }
 {
     match engine {
-        EngineId(0) => bit,
-        EngineId(1) => 16 + bit,
-        EngineId(2) => 32 + bit,
-        EngineId(_) => 96 + bit,
+        EngineId::RCS => bit,
+        EngineId::BCS => 16 + bit,
+        EngineId::VCS => 32 + bit,
+        _ => 96 + bit,
     }
 }

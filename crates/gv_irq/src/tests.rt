@@ -6,13 +6,13 @@ use gv_types::EngineId;
 use std::process::Abort;
 use std::test::Fail;
 
-const RCS: EngineId = EngineId(0);
+const RCS: EngineId = EngineId::RCS;
 
-const BCS: EngineId = EngineId(1);
+const BCS: EngineId = EngineId::BCS;
 
-const VCS: EngineId = EngineId(2);
+const VCS: EngineId = EngineId::VCS;
 
-const VECS: EngineId = EngineId(3);
+const VECS: EngineId = EngineId::VECS;
 
 // Bits of an engine.
 const USER: u8 = 0;

@@ -125,13 +125,19 @@ IsTarget offset (General engine number) = (engine.0 < 4) × (number < 32)
 IsTarget offset Interrupts = IsTrue (is_interrupt_register offset)
 IsTarget offset target = Unit {0}
 
+-- Where a write or a read goes elsewhere, it goes to the offset's target.
 abbrev pub IsEffect : ℕ → Effect → Type 0
-IsEffect offset (Goes target) = IsTarget offset target
+IsEffect offset (Goes target) = (target_at offset ≡ target) × IsTarget offset target
 IsEffect offset effect = Unit {0}
 
 abbrev pub IsFound : ℕ → Lookup → Type 0
-IsFound offset (found.Goes target) = IsTarget offset target
+IsFound offset (found.Goes target) = (target_at offset ≡ target) × IsTarget offset target
 IsFound offset value = Unit {0}
+
+-- A write that isn't kept leaves the map.
+abbrev pub IsLeft : Effect → (ℕ → ℕ) → (ℕ → ℕ) → Type 0
+IsLeft Kept old new = Unit {0}
+IsLeft effect old new = new ≡ old
 
 -- ---- how the map is held
 

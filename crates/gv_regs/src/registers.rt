@@ -1,5 +1,5 @@
 ghost use Rattle.std.specs.Prelude.{◌≡◌, ◌+◌, ◌<◌, ◌≤◌};
-ghost use Rattle.gv_regs.specs.Registers.{map_of, found_at, IsFound, register_read, register_written, effect_at, IsEffect, reset_registers, engine_reset, masked, HasMaskedBits};
+ghost use Rattle.gv_regs.specs.Registers.{map_of, found_at, IsFound, register_read, register_written, effect_at, IsEffect, IsLeft, reset_registers, engine_reset, masked, HasMaskedBits};
 
 use crate::decode::{Register, register_at};
 use crate::effect::{Effect, Lookup};
@@ -81,6 +81,7 @@ impl Registers {
         ensures effect { result ≡ effect_at offset }
         ensures form { IsEffect offset result }
         ensures map { map_of self.new ≡ register_written (map_of self.old) offset value }
+        ensures left { IsLeft result (map_of self.old) (map_of self.new) }
         ensures guest { self.new.guest ≡ self.old.guest }
         ensures ranges { self.new.ranges ≡ self.old.ranges }
     {

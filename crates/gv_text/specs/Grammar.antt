@@ -2,7 +2,7 @@
 -- none before the first and none after the last. A line that is empty or begins with # says nothing.
 -- A form of line that isn't here is refused.
 use Rattle.std.specs.Prelude.{ℕ, ◌+◌, ◌-◌, ◌*◌, ◌%◌, ◌^◌, ◌<◌, ◌≤◌, ◌≡◌, List, [], ◌∷◌, Option, Some, None, Bool, true, not, nat_lt, nat_le, ◌==◌, ◌&&◌, ◌||◌, if◌then◌else◌, length, codes}
-use Rattle.std.specs.List.{slice_split, AllByRecursion}
+use Rattle.std.specs.List.{slice_split, list_any, AllByRecursion}
 use Rattle.std.specs.Str.{bytes_eq}
 use Rattle.gv_types.specs.Memory.{bytes_of}
 use Rattle.gv_types.specs.declared.event.Width.{Width}
@@ -57,10 +57,13 @@ touches_unserved base first end =
     || touches first end (base + 0x370) (base + 0x3A4)
     || touches first end (base + 0x600) (base + 0x680)
 
--- Whether a read, or a line of writes, may reach the bytes from `first` up to `end`. The render engine's
--- registers stand from 0x2000 on, the blitter engine's from 0x22000.
+-- The bases of the engines RCS, BCS, VCS and VECS.
+abbrev pub engine_bases : List ℕ
+engine_bases = 0x2000 ∷ 0x22000 ∷ 0x12000 ∷ 0x1A000 ∷ []
+
+-- Whether a read, or a line of writes, may reach the bytes from `first` up to `end`.
 abbrev pub may_read : Place → ℕ → ℕ → Bool
-may_read places.Registers first end = not (touches_unserved 0x2000 first end || touches_unserved 0x22000 first end)
+may_read places.Registers first end = not (list_any (λ base. touches_unserved base first end) engine_bases)
 may_read place first end = true
 
 -- nor is notify written so far, which stands at 0x78818

@@ -1,6 +1,7 @@
 -- A script: from its bytes to the lines that are accepted, and how it ends.
 use Rattle.std.specs.Prelude.{◌≡◌, refl, ℕ, ◌+◌, List, [], ◌∷◌, Option, Some, None, Bool, true, false, not, nat_lt, nat_le, ◌==◌, ◌&&◌, if◌then◌else◌, length, take}
 use Rattle.std.specs.List.{slice_split}
+use Rattle.gv_types.specs.Limits.{most_frames}
 use Rattle.gv_types.specs.declared.ranges.Want.{Want}
 use Rattle.gv_balloon.specs.Shares.{nothing_given, fits, given_after}
 use Rattle.gv_text.specs.Number.{◌>>=◌, check}
@@ -25,7 +26,7 @@ want_of g = record { low = g.low; high = g.high }
 abbrev pub has_room : Known → GuestForm → Bool
 has_room known g =
     nat_lt known.guests 8
-    && nat_le (known.frames + g.frames) 16384
+    && nat_le (known.frames + g.frames) most_frames
     && fits known.given (want_of g)
 
 -- A guest is accepted before any event; an event, where its guest is there; `end`, where any is.

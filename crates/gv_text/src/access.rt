@@ -3,11 +3,14 @@ ghost use Rattle.gv_text.specs.Grammar.{end_of, read_access, write_access, touch
 
 use gv_types::{Place, Width};
 
-/// Where the registers of the render engine (RCS) begin.
+/// Where the registers of the engines RCS, BCS, VCS and VECS begin.
 const RENDER: u64 = 0x2000;
 
-/// Where those of the blitter engine (BCS) begin.
 const BLITTER: u64 = 0x2_2000;
+
+const VIDEO: u64 = 0x1_2000;
+
+const ENHANCEMENT: u64 = 0x1_a000;
 
 /// The dword of the PVINFO page whose writing notifies the mediator.
 const NOTIFY: u64 = 0x7_8818;
@@ -80,7 +83,10 @@ pub(crate) fn may_write(place: Place, at: u64, bytes: u64) -> bool
 fn may_read_registers(first: u64, end: u64) -> bool
     ensures { result ≡ may_read Place.Registers first end }
 {
-    !touches_unserved(RENDER, first, end) && !touches_unserved(BLITTER, first, end)
+    !touches_unserved(RENDER, first, end)
+        && !touches_unserved(BLITTER, first, end)
+        && !touches_unserved(VIDEO, first, end)
+        && !touches_unserved(ENHANCEMENT, first, end)
 }
 
 /// Whether bytes of the register range are any of an engine's that no line reaches so far: ELSP, the

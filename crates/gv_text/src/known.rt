@@ -1,5 +1,6 @@
 use crate::{Guest, Line};
 use gv_balloon::Given;
+use gv_types::MAX_FRAMES;
 
 /// What the accepted lines of a script have settled: how many guests there are, their frames in all,
 /// the pages of the global table that they are given, and whether an event came.
@@ -24,13 +25,13 @@ impl Known {
         begun: false,
     };
 
-    // Whether there is room for one more guest: 8 guests and 16,384 frames are the most, and the
+    // Whether there is room for one more guest: there are 8 guests at the most, and its frames and the
     // pages that it asks for fit.
     fn has_room(&self, guest: &Guest) -> bool
         ensures { result ≡ has_room self.now guest.now }
     {
         self.guests < 8
-            && u64::from(self.frames) + u64::from(guest.frames) <= 16_384
+            && u64::from(self.frames) + u64::from(guest.frames) <= u64::from(MAX_FRAMES)
             && self.given.fits(&guest.want())
     }
 

@@ -142,7 +142,7 @@ fn register_accesses(rt: HostRuntime) {
 }
 
 /// Lines that reach other offsets than those that are refused, next to them too.
-const ACCEPTED: [&[u8]; 23] = [
+const ACCEPTED: [&[u8]; 26] = [
     b"i4 0 0",
     b"i4 0 222c",
     b"i8 0 2228",
@@ -160,8 +160,11 @@ const ACCEPTED: [&[u8]; 23] = [
     b"i4 0 223a4",
     b"i8 0 225f8",
     b"i8 0 22680",
-    b"i8 0 12230",
-    b"o4 0 12600 1",
+    b"i8 0 12228",
+    b"i4 0 12030",
+    b"o4 0 12680 1",
+    b"i8 0 1a368",
+    b"o4 0 1a3a4 1",
     b"o8 0 2220 1 2",
     b"o4 0 78810 0 0",
     b"o4 0 7881c 0 0",
@@ -215,7 +218,7 @@ fn the_longest_line(rt: HostRuntime) {
     assert_eq!(rt; line(&[b'#'; 257]), Err(BadLine));
 }
 
-const REFUSED: [&[u8]; 88] = [
+const REFUSED: [&[u8]; 95] = [
     b" ",
     b" #",
     b" end",
@@ -273,6 +276,11 @@ const REFUSED: [&[u8]; 88] = [
     b"i4 0 223a0",
     b"i4 0 22600",
     b"i4 0 2267c",
+    b"i4 0 12230",
+    b"i8 0 12230",
+    b"i8 0 12678",
+    b"i4 0 1a370",
+    b"i4 0 1a3a0",
     b"i4 0 2",
     b"i8 0 4",
     b"i4 8 0",
@@ -285,6 +293,8 @@ const REFUSED: [&[u8]; 88] = [
     b"o4 0 23a0 1",
     b"o8 0 25f8 1 2",
     b"o4 0 2267c 1",
+    b"o4 0 12600 1",
+    b"o4 0 1a22c 1 2",
     b"o4 0 78818 4",
     b"o8 0 78818 4",
     b"o4 0 78810 0 0 0",
