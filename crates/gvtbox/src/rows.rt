@@ -245,20 +245,23 @@ fn a_full_sink_is_a_fault(rt: HostRuntime) -> Result<(), Fail> {
     Ok(())
 }
 
-// At the limit of 67,108,864 bytes the script of empty lines ends without `end` at the line after
-// the last, which is 0x4000001. One byte more is too long.
+// At the limit of 67,108,864 bytes a script of notes of 256 bytes each ends without `end` at the
+// line after the last, which is 0x40001. One byte more is too long.
 #[test]
 fn the_limit_of_a_script(rt: HostRuntime) -> Result<(), Fail> {
     let alloc = rt.alloc();
     for (length, expected, text) in [
         (
             67_108_864usize,
-            Status::BadScript(0x400_0001),
-            b"refused 4000001\n".as_slice(),
+            Status::BadScript(0x4_0001),
+            b"refused 40001\n".as_slice(),
         ),
         (67_108_865, Status::TooLong, b"too long\n".as_slice()),
     ] {
-        let bytes = vec![in alloc; b'\n'; length]?;
+        let mut bytes = vec![in alloc; b'#'; length]?;
+        for end in bytes.iter_mut().skip(255).step_by(256) {
+            *end = b'\n';
+        }
         let mut source = MemorySource::new(bytes, usize::MAX, Vec::new(alloc));
         let mut sink = MemorySink::new(alloc, 64, 64, Vec::new(alloc))?;
         let status = mediate(
