@@ -1,0 +1,5 @@
+pub mod Buffer
+pub mod Lines
+pub mod ComingIn
+pub mod Handing
+pub mod Found
