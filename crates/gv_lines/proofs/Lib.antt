@@ -1,3 +1,4 @@
+pub mod Passing
 pub mod Buffer
 pub mod Lines
 pub mod ComingIn

@@ -5,6 +5,10 @@
 mod first;
 mod next;
 mod reader;
+#[cfg(test)]
+mod tests;
+mod writer;
 
 pub use next::Next;
 pub use reader::LineReader;
+pub use writer::ReportWriter;
