@@ -1,6 +1,4 @@
 //! Readers over sources in memory, and writers over sinks in memory.
-ghost use Rattle.std.specs.Prelude.{◌<◌, ◌^◌};
-
 use crate::{LineReader, Next, ReportWriter};
 use gv_outside::{MemorySink, MemorySource, SinkFailed, SourceFailed};
 use gv_types::OutOfMemory;
@@ -18,11 +16,9 @@ struct HandedOut {
 fn handed_out(
     alloc: Global,
     source: &mut MemorySource,
-    limit: usize,
-) -> Result<HandedOut, OutOfMemory>
-    requires { limit < 2 ^ 63 }
-{
-    let mut reader = LineReader::new(alloc, limit)?;
+    limit: u32,
+) -> Result<HandedOut, OutOfMemory> {
+    let mut reader = LineReader::new(alloc, limit as usize)?;
     let mut lines = Vec::new(alloc);
     let mut last = reader.advance(source);
     for _ in 0..u64::MAX {
