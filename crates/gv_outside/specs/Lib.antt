@@ -3,3 +3,4 @@ pub mod SourceState
 pub mod SinkState
 pub mod StdSource
 pub mod StdSink
+pub mod Attempt

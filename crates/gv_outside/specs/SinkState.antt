@@ -1,5 +1,5 @@
 -- A sink over memory.
-use Rattle.std.specs.Prelude.{ℕ, ◌-◌, ◌≤◌, ◌⊎◌, List, [], ◌++◌, min, length, Contains}
+use Rattle.std.specs.Prelude.{ℕ, ◌-◌, ◌<◌, ◌≤◌, ◌⊎◌, List, [], ◌++◌, min, length, Contains}
 use Rattle.gv_outside.specs.Causes.{one_more}
 
 pub record SinkState : Type 0 where
@@ -13,9 +13,9 @@ pub record SinkState : Type 0 where
 abbrev pub new_sink : ℕ → ℕ → List ℕ → SinkState
 new_sink room most failing = record { held = []; room = room; most = most; failing = failing; calls = 0; faults = 0 }
 
--- the next call is one of those that fail, or there is no room for a byte
-abbrev pub FailsNext : SinkState → Type 0
-FailsNext s = Contains s.failing (one_more s.calls) ⊎ (s.room ≤ length s.held)
+-- the next call is one of those that fail, or there is no room for the first byte of its piece
+abbrev pub FailsNext : SinkState → List ℕ → Type 0
+FailsNext s piece = Contains s.failing (one_more s.calls) ⊎ ((s.room ≤ length s.held) × (0 < length piece))
 
 -- how many bytes of a piece a call appends that doesn't fail
 abbrev pub count_appended : SinkState → List ℕ → ℕ

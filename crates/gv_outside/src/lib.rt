@@ -2,6 +2,7 @@
 //! memory and over std's readers and writers, and reading and writing as a whole.
 #![tactic(auto)]
 
+mod attempt;
 mod memory_sink;
 mod memory_source;
 mod sink;

@@ -40,8 +40,8 @@ impl Model for MemorySink {
 
 impl MemorySink {
     /// An empty sink, with the memory for `room` bytes. A call appends at most `most` of them; the
-    /// calls whose numbers are in `failing`, counted from 1, fail, and so do those that find no
-    /// room.
+    /// calls whose numbers are in `failing`, counted from 1, fail, and so do those with a piece that
+    /// isn't empty when no room is left.
     pub fn new(
         alloc: Global,
         room: usize,
@@ -77,20 +77,20 @@ impl Sink for MemorySink {
     /// Appends as many bytes as the piece has, as a call appends at most and as there is room for.
     /// It takes no memory.
     fn write(&mut self, piece: &[u8]) -> Result<usize, SinkFailed>
-        requires { 0 < length piece.now }
-        ensures some { IfOk result (λ n. 0 < n) }
+        ensures some { 0 < length piece.now → IfOk result (λ n. 0 < n) }
         ensures bound { IfOk result (λ n. n ≤ length piece.now) }
         ensures bytes { WriteAppends (Some self.old.held) (Some self.new.held) result piece.now }
         ensures cause { HasCause self.old.faults self.new.faults result }
 
-        ensures fails { IsErr result ↔ FailsNext self.old }
+        ensures fails { IsErr result ↔ FailsNext self.old piece.now }
         ensures count { IfOk result (λ n. n ≡ count_appended self.old piece.now) }
         ensures after { IfOk result (λ n. self.new ≡ after_appending self.old (take n piece.now)) }
         ensures after_fault { OnErr result (self.new ≡ after_fault self.old) }
     {
         self.calls = self.calls.saturating_add(1);
         let room = self.room - self.bytes.len();
-        if room == 0 || self.failing.contains(&self.calls) {
+        let full = room == 0 && !piece.is_empty();
+        if full || self.failing.contains(&self.calls) {
             self.faults = self.faults.saturating_add(1);
             return Err(SinkFailed);
         }

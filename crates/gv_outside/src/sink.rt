@@ -25,11 +25,10 @@ pub trait Sink {
     /// How often it has failed. The count never falls, and stays at 2^64 - 1.
     ghost faults: { Self → ℕ };
 
-    /// Appends the first bytes of the piece and answers how many: at least one. A write that fails
-    /// appends none.
+    /// Appends the first bytes of the piece and answers how many: at least one, unless the piece is
+    /// empty. A write that fails appends none.
     fn write(&mut self, piece: &[u8]) -> Result<usize, SinkFailed>
-        requires { 0 < length piece.now }
-        ensures some { IfOk result (λ n. 0 < n) }
+        ensures some { 0 < length piece.now → IfOk result (λ n. 0 < n) }
         ensures bound { IfOk result (λ n. n ≤ length piece.now) }
         ensures bytes { WriteAppends (held self.old) (held self.new) result piece.now }
         ensures cause { HasCause (faults self.old) (faults self.new) result };

@@ -3,11 +3,13 @@ ghost use Rattle.std.specs.Io.KnownBytes.{WriteAppends, Keeps};
 ghost use Rattle.gv_outside.specs.Causes.{HasCause, one_more};
 ghost use Rattle.gv_outside.specs.StdSink.{faults_of, writer_of};
 
+use crate::attempt::Attempt;
 use crate::{Sink, SinkFailed};
-use std::io::{ErrorKind, Write};
+use std::io;
+use std::io::Write;
 
 /// A std writer as a sink. It tells no bytes. A write that was interrupted is tried again; any
-/// other error, and a write that takes nothing, is a fault.
+/// other error is a fault, and so is a write that takes nothing of a piece that isn't empty.
 ///
 /// What a buffered writer has taken may still be on its way: call `flush` before the process ends.
 /// std's standard output has no buffer.
@@ -29,13 +31,25 @@ impl<W: Write> StdSink<W> {
     /// Hands on what the writer has in a buffer.
     pub fn flush(&mut self) -> Result<(), SinkFailed>
         ensures cause { HasCause (faults_of self.old) (faults_of self.new) result }
+        ensures count { faults_of self.new ≡ (if is_ok result then faults_of self.old else one_more (faults_of self.old)) }
         ensures writer { Keeps (W.contents (writer_of self.old)) (W.contents (writer_of self.new)) }
     {
-        if self.inner.flush().is_err() {
-            self.faults = self.faults.saturating_add(1);
-            return Err(SinkFailed);
+        counted(&mut self.faults, self.inner.flush())
+    }
+}
+
+// Counts a flush that failed.
+fn counted(faults: &mut u64, outcome: io::Result<()>) -> Result<(), SinkFailed>
+    ensures answer { is_ok result ≡ is_ok outcome }
+    ensures cause { HasCause faults.old faults.new result }
+    ensures count { faults.new ≡ (if is_ok outcome then faults.old else one_more faults.old) }
+{
+    match outcome {
+        Ok(()) => Ok(()),
+        Err(_) => {
+            *faults = faults.saturating_add(1);
+            Err(SinkFailed)
         }
-        Ok(())
     }
 }
 
@@ -45,8 +59,7 @@ impl<W: Write> Sink for StdSink<W> {
     ghost faults = { faults_of };
 
     fn write(&mut self, piece: &[u8]) -> Result<usize, SinkFailed>
-        requires { 0 < length piece.now }
-        ensures some { IfOk result (λ n. 0 < n) }
+        ensures some { 0 < length piece.now → IfOk result (λ n. 0 < n) }
         ensures bound { IfOk result (λ n. n ≤ length piece.now) }
         ensures bytes { WriteAppends None None result piece.now }
         ensures cause { HasCause (faults_of self.old) (faults_of self.new) result }
@@ -55,14 +68,10 @@ impl<W: Write> Sink for StdSink<W> {
         ensures writer { WriteAppends (W.contents (writer_of self.old)) (W.contents (writer_of self.new)) result piece.now }
     {
         for _ in 0..u64::MAX {
-            match self.inner.write(piece) {
-                Ok(0) => break,
-                Ok(count) => return Ok(count),
-                Err(error) => {
-                    if error.kind() != ErrorKind::Interrupted {
-                        break;
-                    }
-                }
+            match Attempt::of(self.inner.write(piece), piece.is_empty()) {
+                Attempt::Took(count) => return Ok(count),
+                Attempt::Again => {}
+                Attempt::Failed => break,
             }
         }
         self.faults = self.faults.saturating_add(1);

@@ -3,8 +3,9 @@ ghost use Rattle.std.specs.Io.KnownBytes.{ReadConsumes};
 ghost use Rattle.gv_outside.specs.Causes.{HasCause, one_more};
 ghost use Rattle.gv_outside.specs.StdSource.{faults_of, reader_of};
 
+use crate::attempt::Attempt;
 use crate::{Source, SourceFailed};
-use std::io::{ErrorKind, Read};
+use std::io::Read;
 
 /// A std reader as a source. It tells no bytes. A read that was interrupted is tried again; any
 /// other error is a fault.
@@ -39,13 +40,10 @@ impl<R: Read> Source for StdSource<R> {
         ensures reader { ReadConsumes (R.remaining (reader_of self.old)) (R.remaining (reader_of self.new)) result into.new }
     {
         for _ in 0..u64::MAX {
-            match self.inner.read(into) {
-                Ok(count) => return Ok(count),
-                Err(error) => {
-                    if error.kind() != ErrorKind::Interrupted {
-                        break;
-                    }
-                }
+            match Attempt::of(self.inner.read(into), true) {
+                Attempt::Took(count) => return Ok(count),
+                Attempt::Again => {}
+                Attempt::Failed => break,
             }
         }
         self.faults = self.faults.saturating_add(1);

@@ -37,6 +37,7 @@ fn a_memory_sink_takes_pieces(rt: HostRuntime) -> Result<(), Fail> {
     assert_eq!(rt; sink.write(b"defg"), Err(SinkFailed));
     assert_eq!(rt; sink.write(b"defg"), Ok(2));
     assert_eq!(rt; sink.write(b"fg"), Err(SinkFailed));
+    assert_eq!(rt; sink.write(b""), Ok(0));
     assert_eq!(rt; sink.bytes(), b"abcde".as_slice());
     Ok(())
 }
@@ -152,5 +153,33 @@ fn a_writer_is_a_sink(rt: HostRuntime) -> Result<(), Fail> {
     assert_eq!(rt; sink.flush(), Ok(()));
     assert_eq!(rt; shaky.bytes.as_slice(), b"abc.".as_slice());
     assert_eq!(rt; shaky.flushed, true);
+    Ok(())
+}
+
+// A writer that takes nothing, and whose flush fails.
+#[derive(Drop)]
+struct Stuck {
+    calls: u8,
+}
+
+impl Write for Stuck {
+    fn write(&mut self, _: &[u8]) -> io::Result<usize> {
+        self.calls = self.calls.saturating_add(1);
+        Ok(0)
+    }
+
+    fn flush(&mut self) -> io::Result<()> {
+        Err(Error::from(ErrorKind::BrokenPipe))
+    }
+}
+
+#[test]
+fn a_stuck_writer_is_a_fault_at_once(rt: HostRuntime) -> Result<(), Fail> {
+    let mut stuck = Stuck { calls: 0 };
+    let mut sink = StdSink::new(&mut stuck);
+    assert_eq!(rt; sink.write(b""), Ok(0));
+    assert_eq!(rt; sink.write(b"abc"), Err(SinkFailed));
+    assert_eq!(rt; sink.flush(), Err(SinkFailed));
+    assert_eq!(rt; stuck.calls, 2);
     Ok(())
 }

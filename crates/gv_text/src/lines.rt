@@ -1,11 +1,11 @@
-ghost use Rattle.std.specs.Prelude.{◌≡◌, ◌<◌, ◌↔◌, [], ◌∷◌, length, IsNone, IfSome};
+ghost use Rattle.std.specs.Prelude.{◌≡◌, ◌<◌, ◌≤◌, ◌↔◌, [], ◌∷◌, length, IsNone, IfSome};
 ghost use Rattle.std.specs.List.{position_or_len, before_first, after_first};
 ghost use Rattle.gv_text.specs.Script.{is_line_feed, counts_last, lines_of};
 
 use memchr::memchr;
 
 /// A line has at most this many bytes, without its line feed.
-pub(crate) const LONGEST_LINE: usize = 256;
+pub const LONGEST_LINE: usize = 256;
 
 /// The next line of a script, without its line feed, and the bytes that follow it; or nothing where
 /// no line is left.
@@ -32,8 +32,9 @@ pub fn next_line(rest: &[u8], whole: bool) -> Option<(&[u8], &[u8])>
 }
 
 /// Where the first line feed stands, or the number of bytes where there is none.
-fn line_end(bytes: &[u8]) -> usize
-    ensures { result ≡ position_or_len is_line_feed bytes.now }
+pub fn line_end(bytes: &[u8]) -> usize
+    ensures value { result ≡ position_or_len is_line_feed bytes.now }
+    ensures within { result ≤ length bytes.now }
 {
     memchr(b'\n', bytes).unwrap_or(bytes.len())
 }

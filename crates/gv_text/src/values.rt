@@ -29,6 +29,16 @@ impl Values {
         }
     }
 
+    /// These values.
+    pub fn from_slice(values: &[u64]) -> Self
+        requires { length values.now ≤ 16 }
+        ensures { result ≡ values.now }
+    {
+        let mut items = ArrayVec::new();
+        items.try_extend_from_slice(values).unwrap();
+        Values { items }
+    }
+
     pub(crate) fn push(&mut self, value: u64)
         requires { length self.old < 16 }
         ensures { self.new ≡ self.old ++ value ∷ [] }

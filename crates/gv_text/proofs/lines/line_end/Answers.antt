@@ -14,5 +14,5 @@ first_byte : (bytes : List ℕ) (place : Option ℕ) → IsFirstByte is_line_fee
 first_byte bytes None found = sym (position_or_len_is is_line_feed bytes (length bytes) 0 (omega arith) (λ k below. fails bytes (length bytes) k found below) (λ h. absurd (omega arith)))
 first_byte bytes (Some place) found = sym (position_or_len_is is_line_feed bytes place 0 (omega (arith, found.0.high)) (λ k below. fails bytes place k found.0.before below) (λ h. found.1))
 
-pub returns : goal.returns
-returns c = c.unwrap_or.ensures ∙ first_byte c.args.bytes.now c.memchr.result c.memchr.ensures
+pub returns-clause-value : goal.returns-clause-value
+returns-clause-value c = c.unwrap_or.ensures ∙ first_byte c.args.bytes.now c.memchr.result c.memchr.ensures

@@ -12,7 +12,7 @@ returns-then-end-rest-clause-none c =
 pub returns-then-end-rest-clause-lines : goal.returns-then-end-rest-clause-lines
 returns-then-end-rest-clause-lines c =
     let first = lines_of-first (counts_last c.args.whole) c.args.rest.now (omega arith) in
-    rw (take_rest c.args.rest.now (c.line_end-end.result + 1), c.line_end-end.ensures) first
+    rw (take_rest c.args.rest.now (c.line_end-end.result + 1), c.line_end-end.ensures.value) first
 
 pub returns-then-is_line-clause-none : goal.returns-then-is_line-clause-none
 returns-then-is_line-clause-none c =

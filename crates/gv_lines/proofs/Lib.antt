@@ -1,0 +1,6 @@
+pub mod Passing
+pub mod Buffer
+pub mod Lines
+pub mod ComingIn
+pub mod Handing
+pub mod Found

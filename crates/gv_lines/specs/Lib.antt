@@ -1,0 +1,4 @@
+pub mod Coming
+pub mod First
+pub mod Reader
+pub mod Writer

@@ -1,0 +1,88 @@
+ghost use Rattle.std.specs.Prelude.{◌≡◌, ◌≤◌, [], ◌++◌, length, drop, vec_len, vec_capacity, IfOk, OnOk, OnErr};
+ghost use Rattle.gv_outside.specs.Causes.{HasCause};
+ghost use Rattle.gv_lines.specs.Writer.{PassesOn};
+
+use gv_outside::{Sink, SinkFailed};
+use gv_types::OutOfMemory;
+use std::alloc::Global;
+use std::marker::Model;
+
+/// How many bytes are written at a time at the most.
+const PIECE: usize = 65_536;
+
+/// Writes report lines to a sink, piece by piece. It takes its memory once. A clause sees the bytes that
+/// it holds, which aren't written yet.
+#[derive(Drop)]
+pub struct ReportWriter {
+    buffer: Vec<u8>,
+    written: usize,
+}
+
+impl Model for ReportWriter {
+    ghost use Rattle.std.specs.Prelude.{ℕ, List, ◌≤◌, drop, vec_len, vec_capacity};
+
+    ghost Value = { List ℕ };
+
+    ghost view = { λ w. drop w.written w.buffer.items };
+
+    ghost invariant = { λ w. (w.written ≤ vec_len w.buffer) × (vec_len w.buffer ≤ 65536) × (65536 ≤ vec_capacity w.buffer) };
+}
+
+impl ReportWriter {
+    /// A writer that holds nothing.
+    pub fn new(alloc: Global) -> Result<ReportWriter, OutOfMemory>
+        ensures { IfOk result (λ writer. writer ≡ []) }
+    {
+        Ok(ReportWriter {
+            buffer: Vec::with_capacity(alloc, PIECE)?,
+            written: 0,
+        })
+    }
+
+    /// One more line. Where there is no room for it, what is held is written first; where that fails, the
+    /// line isn't taken.
+    pub fn push<K: Sink>(&mut self, sink: &mut K, line: &[u8]) -> Result<(), SinkFailed>
+        requires { length line.now ≤ 65536 }
+        ensures ok { OnOk result (PassesOn (self.old ++ line.now) self.new (K.held sink.old) (K.held sink.new)) }
+        ensures err { OnErr result (PassesOn self.old self.new (K.held sink.old) (K.held sink.new)) }
+        ensures bound { length self.new ≤ 65536 }
+        ensures cause { HasCause (K.faults sink.old) (K.faults sink.new) result }
+    {
+        if line.len() > PIECE - self.buffer.len() {
+            write_out(&mut self.buffer, &mut self.written, sink)?;
+        }
+        self.buffer.extend_from_slice(line).unwrap();
+        Ok(())
+    }
+
+    /// Writes what is held. Where that fails, what wasn't written stays held.
+    pub fn flush<K: Sink>(&mut self, sink: &mut K) -> Result<(), SinkFailed>
+        ensures ok { OnOk result (self.new ≡ []) }
+        ensures passes { PassesOn self.old self.new (K.held sink.old) (K.held sink.new) }
+        ensures cause { HasCause (K.faults sink.old) (K.faults sink.new) result }
+    {
+        write_out(&mut self.buffer, &mut self.written, sink)
+    }
+}
+
+// Writes the buffer's bytes from `written` on, and then empties it.
+fn write_out<K: Sink>(
+    buffer: &mut Vec<u8>,
+    written: &mut usize,
+    sink: &mut K,
+) -> Result<(), SinkFailed>
+    requires { written.old ≤ vec_len buffer.old }
+    ensures ok { OnOk result ((buffer.new.items ≡ []) × (written.new ≡ 0)) }
+    ensures err { OnErr result (buffer.new.items ≡ buffer.old.items) }
+    ensures within { written.new ≤ vec_len buffer.new }
+    ensures passes { PassesOn (drop written.old buffer.old.items) (drop written.new buffer.new.items) (K.held sink.old) (K.held sink.new) }
+    ensures capacity { vec_capacity buffer.new ≡ vec_capacity buffer.old }
+    ensures cause { HasCause (K.faults sink.old) (K.faults sink.new) result }
+{
+    while *written < buffer.len() {
+        *written += sink.write(&buffer[*written..])?;
+    }
+    buffer.clear();
+    *written = 0;
+    Ok(())
+}

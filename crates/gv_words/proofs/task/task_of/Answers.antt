@@ -1,0 +1,31 @@
+use Rattle.std.proofs.Common.{◌≡◌, inl, inr, true, false, List, [], ◌∷◌, None, map, if◌then◌else◌, ap, refl, subst, ◌∙◌, arith}
+use Rattle.std.proofs.lemmas.Bool.Decides.{nat_tests}
+use Rattle.clap.proofs.OnLiterals.{clap_on_literals}
+use Rattle.clap.specs.Kinds.{Kinds, IsAmong, HasKind}
+use Rattle.clap.specs.Walk.{Text, is_empty}
+use Rattle.clap.specs.Faults.{fault_of, is_simple_and_free}
+use Rattle.clap.specs.Words.{App, subcommand_of, kind_of}
+use Rattle.clap.specs.declared.error.kind.ErrorKind.{ErrorKind}
+use Rattle.clap.specs.declared.error.kind.ErrorKind.TheVariants as error_kind
+use Rattle.clap.specs.declared.error.Error.{Error}
+use Rattle.gv_words.specs.Task.{command_app, task_meant, task_named}
+use Rattle.gv_words.proofs.task.task_of.Goals as goal
+
+is_simple_command : is_simple_and_free command_app ≡ true
+unfolding clap_on_literals
+is_simple_command = refl
+
+some_kind : (k : ErrorKind) (kinds : Kinds) → IsAmong k kinds → is_empty kinds ≡ false
+some_kind k [] among = absurd among
+some_kind k (x ∷ kinds) among = grind (arith, nat_tests)
+
+refused_words : (e : Error) (words : List Text) → (kind_of e ≡ error_kind.OutOfMemory → ⊥) → HasKind (fault_of command_app words) e → task_meant words ≡ None
+refused_words e words not_memory (inl memory) = absurd (not_memory memory)
+refused_words e words not_memory (inr among) = ap (λ b. if b then task_named (subcommand_of command_app words) else None) (some_kind (kind_of e) (fault_of command_app words) among)
+
+pub returns-in-Err-clause-bad : goal.returns-in-Err-clause-bad
+returns-in-Err-clause-bad c bad =
+    let words = map (λ word. word.now) c.args.words.now in
+    let kinds = c.in-Err.ensures.kinds (ap is_simple_and_free c.in-Ok.ensures ∙ is_simple_command) in
+    let not_memory : kind_of c.in-Err.error ≡ error_kind.OutOfMemory → ⊥ = λ memory. let is_memory = c.refused.ensures.1 (c.kind.ensures ∙ memory) in cc in
+    refused_words c.in-Err.error words not_memory (subst (λ (a : App). HasKind (fault_of a words) c.in-Err.error) c.in-Ok.ensures kinds)
