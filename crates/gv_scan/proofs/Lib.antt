@@ -1,5 +1,5 @@
 pub mod Dwords
-pub mod Tests
+pub mod FrontCommand
 pub mod Steps
 pub mod Pages
 pub mod Placing

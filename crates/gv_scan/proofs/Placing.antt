@@ -1,5 +1,5 @@
 -- A layout whose batches stand elsewhere is still the copy of its items.
-use Rattle.std.proofs.Common.{◌≡◌, ℕ, ◌+◌, ◌*◌, ◌%◌, Bool, true, false, List, [], ◌∷◌, ◌++◌, map, length, get_or, length-append, Option, None, Some, refl, ap, sym, subst, ◌∙◌, arith}
+use Rattle.std.proofs.Common.{◌≡◌, ℕ, ◌+◌, ◌*◌, ◌%◌, Bool, true, false, List, [], ◌∷◌, ◌++◌, map, length, length-append, Option, Some, refl, ap, sym, subst, ◌∙◌, arith}
 use Rattle.std.specs.List.{concat}
 use Rattle.std.specs.Bool.{MatchBool}
 use Rattle.std.proofs.lemmas.List.{map-append}
@@ -9,8 +9,8 @@ use Rattle.gv_cmd.specs.declared.kind.Kind.{Kind}
 use Rattle.gv_cmd.specs.declared.kind.Kind.TheVariants.{BatchStart}
 use Rattle.gv_cmd.specs.declared.stands.Stands.{Stands}
 use Rattle.gv_cmd.specs.declared.stands.Stands.TheVariants.{Ring}
-use Rattle.gv_fetch.specs.Items.{Items, none, command, batch, inside, is_fetched_start, is_end, MayStand, MayAllStand, start_at}
-use Rattle.gv_scan.specs.Layout.{Layout, Begins, Started, Copies, RingAt, AreCopies, IsCopy, placed_by, placed, placed_layout}
+use Rattle.gv_fetch.specs.Items.{Items, none, command, batch, inside, is_fetched_start, is_end, MayAllStand, start_at}
+use Rattle.gv_scan.specs.Layout.{Layout, Begins, Copies, RingAt, AreCopies, placed_by, placed, placed_layout}
 use Rattle.gv_fetch.proofs.Readdressed.{SameStart, start_copied}
 
 -- what isn't a start of a privileged batch stays
@@ -73,22 +73,25 @@ module _ (base : ℕ) (p : Layout) (offsets : p.base ≡ 0) (batches : AreCopies
   pub copies-placed : (stands : Stands) (engine : ℕ) (items : Items) (cs behind : List (List ℕ)) → MayAllStand stands engine items → Copies p.base p.batches items cs behind → Copies base there.batches items (map (placed base) cs) (map (placed base) behind)
   copies-placed stands engine none cs behind may copies = ap (map (placed base)) copies
   copies-placed stands engine (command ws more) [] behind may copies = copies
-  copies-placed stands engine (command ws more) (c ∷ cs) behind may copies = 
-      (ap (placed base) copies.0 ∙ stays base ws (kind_of ws) may.1,
-       behind-placed stands engine more cs behind (is_end (kind_of ws)) (λ rest. copies-placed stands engine more cs behind rest copies.1) copies.1 may.2)
+  copies-placed stands engine (command ws more) (c ∷ cs) behind may copies = (
+    ap (placed base) copies.0 ∙ stays base ws (kind_of ws) may.1,
+    behind-placed stands engine more cs behind (is_end (kind_of ws)) (λ rest. copies-placed stands engine more cs behind rest copies.1) copies.1 may.2,
+  )
   copies-placed stands engine (batch ws items more) [] behind may copies = copies
   copies-placed stands engine (batch ws items more) (c ∷ cs) behind may copies =
       let s = copies.0 in
       let fit = aligned (length (concat s.begins.before)) s.to offsets s.begins.count in
-      let same = start_copied ws s.to fit may.0.command may.1 in
-      (record {
-        to = base + s.to;
-        copy = start-placed ws c s.to s.copy same;
-        rest = map (placed base) s.rest;
-        begins = begins-placed p.base s.to base (base + s.to) p.batches s.rest (let o = offsets in omega arith) batches s.begins;
-        behind = map (placed base) s.behind;
-        inside = copies-placed (inside stands) engine items s.rest s.behind may.2 s.inside;
-      }, copies-placed stands engine more cs behind may.3 copies.1)
+      let same = start_copied ws s.to fit may.0.command may.1 in (
+        record {
+          to = base + s.to;
+          copy = start-placed ws c s.to s.copy same;
+          rest = map (placed base) s.rest;
+          begins = begins-placed p.base s.to base (base + s.to) p.batches s.rest (let o = offsets in omega arith) batches s.begins;
+          behind = map (placed base) s.behind;
+          inside = copies-placed (inside stands) engine items s.rest s.behind may.2 s.inside;
+        },
+        copies-placed stands engine more cs behind may.3 copies.1,
+      )
 
   pub ring-placed : (engine at : ℕ) (items : Items) → AreCopies p.ring → MayAllStand Ring engine items → RingAt p at items → RingAt there at items
   ring-placed engine at items ring may r = record {

@@ -1,5 +1,5 @@
 -- A batch, one command on.
-use Rattle.std.proofs.Common.{◌≡◌, ℕ, ◌+◌, ◌-◌, ◌*◌, ◌%◌, ◌^◌, ◌<◌, ◌≤◌, Bool, true, false, List, [], ◌∷◌, ◌++◌, length, drop, length-drop, append_assoc, Option, None, Some, Result, Ok, Err, refl, ap, sym, subst, ◌∙◌, arith}
+use Rattle.std.proofs.Common.{◌≡◌, ℕ, ◌+◌, ◌-◌, ◌*◌, ◌%◌, ◌^◌, ◌<◌, ◌≤◌, Bool, true, false, List, [], ◌∷◌, ◌++◌, length, drop, length-drop, append_assoc, Option, Some, Result, Ok, Err, refl, ap, sym, subst, ◌∙◌, arith}
 use Rattle.std.specs.List.{concat}
 use Rattle.std.proofs.lemmas.List.{append-nil, drop-drop, drop_all}
 use Rattle.gv_types.specs.declared.reply.Reason.{Reason}
@@ -13,7 +13,7 @@ use Rattle.gv_cmd.specs.declared.stands.Stands.{Stands}
 use Rattle.gv_cmd.specs.declared.stands.Stands.TheVariants.{Ring, Privileged, Second}
 use Rattle.gv_fetch.specs.Items.{Items, none, command, batch, inside, is_fetched_start, is_end, MayStand, start_at}
 use Rattle.gv_fetch.specs.Fetch.{GlobalSpace, Got, then, by_kind, batch_command, command_first, batch_first, whole_batch, ring_command, whole_ring, items_of}
-use Rattle.gv_scan.specs.Layout.{Begins, Started, Copies, BatchAt, StartsWithin, IsCopy, AreCopies, FitsWindow}
+use Rattle.gv_scan.specs.Layout.{Copies, BatchAt, StartsWithin, IsCopy, AreCopies, FitsWindow}
 use Rattle.gv_fetch.proofs.Readdressed.{start_copied}
 use Rattle.gv_fetch.proofs.Ends.{batch-step, ring-step, ring-none}
 use Rattle.gv_fetch.proofs.Forms.{batch_command-ok, ring_command-ok}
@@ -84,15 +84,17 @@ copies-grow bs ds (command ws more) [] after tail copies = absurd copies
 copies-grow bs ds (command ws more) (c ∷ cs) after tail copies = (copies.0, copies-grow bs ds more cs after tail copies.1)
 copies-grow bs ds (batch ws items more) [] after tail copies = absurd copies
 copies-grow bs ds (batch ws items more) (c ∷ cs) after tail copies =
-    let s = copies.0 in
-    (record {
-      to = s.to;
-      copy = s.copy;
-      rest = s.rest ++ ds;
-      begins = record { before = s.begins.before; split = ap (λ xs. xs ++ ds) s.begins.split ∙ append_assoc s.begins.before s.rest ds; count = s.begins.count };
-      behind = s.behind ++ ds;
-      inside = copies-grow bs ds items s.rest s.behind ds s.inside;
-    }, copies-grow bs ds more cs after tail copies.1)
+    let s = copies.0 in (
+      record {
+        to = s.to;
+        copy = s.copy;
+        rest = s.rest ++ ds;
+        begins = record { before = s.begins.before; split = ap (λ xs. xs ++ ds) s.begins.split ∙ append_assoc s.begins.before s.rest ds; count = s.begins.count };
+        behind = s.behind ++ ds;
+        inside = copies-grow bs ds items s.rest s.behind ds s.inside;
+      },
+      copies-grow bs ds more cs after tail copies.1,
+    )
 
 pub copies-added : (bs ds : List (List ℕ)) (items : Items) (cs : List (List ℕ)) → Copies 0 bs items cs [] → Copies 0 (bs ++ ds) items cs []
 copies-added bs ds items cs copies = let P : List (List ℕ) → Type 0 = λ xs. Copies 0 (bs ++ ds) items xs [] in subst P (append-nil cs) (copies-grow bs ds items cs [] [] copies)
@@ -113,7 +115,7 @@ module _ (space : GlobalSpace) (engine : ℕ) (stands : Stands) (at left : ℕ) 
   step r = then r (λ ws.
       by_kind (kind_of ws)
       (λ to. then (whole_batch space engine (inside stands) to (left - length ws)) (λ got.
-          then (whole_batch space engine stands (at + 4 * length ws) got.budget) (batch_first ws got.items)))
+      then (whole_batch space engine stands (at + 4 * length ws) got.budget) (batch_first ws got.items)))
       (Ok record { items = command ws none; budget = left - length ws })
       (then (whole_batch space engine stands (at + 4 * length ws) (left - length ws)) (command_first ws)))
 
@@ -138,9 +140,9 @@ module _ (space : GlobalSpace) (engine : ℕ) (stands : Stands) (at left : ℕ) 
     start-step second to got kind inner =
         batch-step space engine stands at left ∙ ap step is
         ∙ ap (λ k. by_kind k
-            (λ to. then (whole_batch space engine (inside stands) to (left - length ws)) (λ got. then (whole_batch space engine stands (at + 4 * length ws) got.budget) (batch_first ws got.items)))
-            (Ok record { items = command ws none; budget = left - length ws })
-            (then (whole_batch space engine stands (at + 4 * length ws) (left - length ws)) (command_first ws))) kind
+        (λ to. then (whole_batch space engine (inside stands) to (left - length ws)) (λ got. then (whole_batch space engine stands (at + 4 * length ws) got.budget) (batch_first ws got.items)))
+        (Ok record { items = command ws none; budget = left - length ws })
+        (then (whole_batch space engine stands (at + 4 * length ws) (left - length ws)) (command_first ws))) kind
         ∙ ap (λ r. then r (λ got. then (whole_batch space engine stands (at + 4 * length ws) got.budget) (batch_first ws got.items))) inner
         ∙ batch-behind (whole_batch space engine stands (at + 4 * length ws) got.budget)
       where
@@ -152,9 +154,9 @@ module _ (space : GlobalSpace) (engine : ℕ) (stands : Stands) (at left : ℕ) 
     start-refused second to reason kind inner =
         batch-step space engine stands at left ∙ ap step is
         ∙ ap (λ k. by_kind k
-            (λ to. then (whole_batch space engine (inside stands) to (left - length ws)) (λ got. then (whole_batch space engine stands (at + 4 * length ws) got.budget) (batch_first ws got.items)))
-            (Ok record { items = command ws none; budget = left - length ws })
-            (then (whole_batch space engine stands (at + 4 * length ws) (left - length ws)) (command_first ws))) kind
+        (λ to. then (whole_batch space engine (inside stands) to (left - length ws)) (λ got. then (whole_batch space engine stands (at + 4 * length ws) got.budget) (batch_first ws got.items)))
+        (Ok record { items = command ws none; budget = left - length ws })
+        (then (whole_batch space engine stands (at + 4 * length ws) (left - length ws)) (command_first ws))) kind
         ∙ ap (λ r. then r (λ got. then (whole_batch space engine stands (at + 4 * length ws) got.budget) (batch_first ws got.items))) inner
 
 -- ---- the loop over a batch of the second level
@@ -275,15 +277,17 @@ module _ (space : GlobalSpace) (engine : ℕ) (whole : Result Got Reason) (at le
           let bs = others ++ (so_far.added ++ inner.commands) in
           let P : List (List ℕ) → Type 0 = λ xs. Copies 0 xs so_far.items so_far.commands [] in
           let old : P bs = subst P (append_assoc others so_far.added inner.commands) (copies-added (others ++ so_far.added) inner.commands so_far.items so_far.commands (so_far.copies others same)) in
-          copies-joined 0 bs so_far.items (batch (start_at ws 0) inner.items none) so_far.commands (start_at ws offset ∷ []) [] old
-          (record {
-            to = offset;
-            copy = refl;
-            rest = inner.commands;
-            begins = record { before = others ++ so_far.added; split = sym (append_assoc others so_far.added inner.commands); count = placed others same offset is_offset };
-            behind = [];
-            inside = inner.copies 0 bs;
-          }, refl)
+          copies-joined 0 bs so_far.items (batch (start_at ws 0) inner.items none) so_far.commands (start_at ws offset ∷ []) [] old (
+            record {
+              to = offset;
+              copy = refl;
+              rest = inner.commands;
+              begins = record { before = others ++ so_far.added; split = sym (append_assoc others so_far.added inner.commands); count = placed others same offset is_offset };
+              behind = [];
+              inside = inner.copies 0 bs;
+            },
+            refl,
+          )
 
       pub first-starts : FirstSoFar space engine whole (at + 4 * length ws) left_then before now_then next
       first-starts = record {
@@ -300,7 +304,9 @@ module _ (space : GlobalSpace) (engine : ℕ) (whole : Result Got Reason) (at le
 
 pub first-begins : (space : GlobalSpace) (engine at left : ℕ) (now : List ℕ) → FirstSoFar space engine (whole_batch space engine Privileged at left) at left now now []
 first-begins space engine at left now = record {
-  items = none; added = []; commands = [];
+  items = none;
+  added = [];
+  commands = [];
   is = nothing-behind (whole_batch space engine Privileged at left);
   appended = appended-none now;
   apart = appended-none [];
@@ -333,7 +339,7 @@ module _ (space : GlobalSpace) (engine : ℕ) (whole : Result Got Reason) (ring 
   ring_next r = then r (λ ws.
       by_kind (kind_of ws)
       (λ to. then (whole_batch space engine Privileged to left) (λ got.
-          then (whole_ring space engine (drop (length ws) rest) got.budget) (batch_first ws got.items)))
+      then (whole_ring space engine (drop (length ws) rest) got.budget) (batch_first ws got.items)))
       (Err Command)
       (then (whole_ring space engine (drop (length ws) rest) left) (command_first ws)))
 
@@ -359,9 +365,9 @@ module _ (space : GlobalSpace) (engine : ℕ) (whole : Result Got Reason) (ring 
         added = so_far.added;
         is = sym (behind-both so_far.items (command ws none) (whole_ring space engine (drop (at + length ws) ring) left))
             ∙ sym (ap (behind_these so_far.items) (one_on ∙ ap ring_next is
-                ∙ by-other (kind_of ws) (no-end (kind_of ws) engine may.allowed) not _ _ _
-                ∙ command-behind ws (whole_ring space engine (drop (length ws) rest) left)
-                ∙ ap (behind_these (command ws none)) (on left)))
+            ∙ by-other (kind_of ws) (no-end (kind_of ws) engine may.allowed) not _ _ _
+            ∙ command-behind ws (whole_ring space engine (drop (length ws) rest) left)
+            ∙ ap (behind_these (command ws none)) (on left)))
             ∙ so_far.is;
         own_is = appended-more so_far.commands (ws ∷ []) [] own next so_far.own_is (added ∙ ap (λ xs. own ++ xs) (sym (append-nil ws))) (plain-copy ws may.command not, tt);
         batches_are = so_far.batches_are;
@@ -371,11 +377,11 @@ module _ (space : GlobalSpace) (engine : ℕ) (whole : Result Got Reason) (ring 
     pub ring-inner-refused : (second : Bool) (to : ℕ) (reason : Reason) → kind_of ws ≡ Some (BatchStart false second to) → whole_batch space engine Privileged to left ≡ Err reason → whole ≡ Err reason
     ring-inner-refused second to reason kind inner =
         sym so_far.is ∙ ap (behind_these so_far.items) (one_on ∙ ap ring_next is
-          ∙ ap (λ k. by_kind k
-              (λ to. then (whole_batch space engine Privileged to left) (λ got. then (whole_ring space engine (drop (length ws) rest) got.budget) (batch_first ws got.items)))
-              (Err Command)
-              (then (whole_ring space engine (drop (length ws) rest) left) (command_first ws))) kind
-          ∙ ap (λ r. then r (λ got. then (whole_ring space engine (drop (length ws) rest) got.budget) (batch_first ws got.items))) inner)
+        ∙ ap (λ k. by_kind k
+        (λ to. then (whole_batch space engine Privileged to left) (λ got. then (whole_ring space engine (drop (length ws) rest) got.budget) (batch_first ws got.items)))
+        (Err Command)
+        (then (whole_ring space engine (drop (length ws) rest) left) (command_first ws))) kind
+        ∙ ap (λ r. then r (λ got. then (whole_ring space engine (drop (length ws) rest) got.budget) (batch_first ws got.items))) inner)
 
     -- a start of a batch, which was fetched and appended
     module _ (second : Bool) (to offset left_then : ℕ) (next batches_then : List ℕ) (kind : kind_of ws ≡ Some (BatchStart false second to))
@@ -400,13 +406,13 @@ module _ (space : GlobalSpace) (engine : ℕ) (whole : Result Got Reason) (ring 
         added = so_far.added ++ outer.added;
         is = sym (behind-both so_far.items (batch (start_at ws 0) outer.items none) (whole_ring space engine (drop (at + length ws) ring) left_then))
             ∙ sym (ap (behind_these so_far.items) (one_on ∙ ap ring_next is
-                ∙ ap (λ k. by_kind k
-                    (λ to. then (whole_batch space engine Privileged to left) (λ got. then (whole_ring space engine (drop (length ws) rest) got.budget) (batch_first ws got.items)))
-                    (Err Command)
-                    (then (whole_ring space engine (drop (length ws) rest) left) (command_first ws))) kind
-                ∙ ap (λ r. then r (λ got. then (whole_ring space engine (drop (length ws) rest) got.budget) (batch_first ws got.items))) outer.is
-                ∙ batch-behind outer.items (whole_ring space engine (drop (length ws) rest) left_then)
-                ∙ ap (behind_these (batch (start_at ws 0) outer.items none)) (on left_then)))
+            ∙ ap (λ k. by_kind k
+            (λ to. then (whole_batch space engine Privileged to left) (λ got. then (whole_ring space engine (drop (length ws) rest) got.budget) (batch_first ws got.items)))
+            (Err Command)
+            (then (whole_ring space engine (drop (length ws) rest) left) (command_first ws))) kind
+            ∙ ap (λ r. then r (λ got. then (whole_ring space engine (drop (length ws) rest) got.budget) (batch_first ws got.items))) outer.is
+            ∙ batch-behind outer.items (whole_ring space engine (drop (length ws) rest) left_then)
+            ∙ ap (behind_these (batch (start_at ws 0) outer.items none)) (on left_then)))
             ∙ so_far.is;
         own_is = appended-more so_far.commands (start_at ws offset ∷ []) [] own next so_far.own_is (added ∙ ap (λ xs. own ++ xs) (sym (append-nil (start_at ws offset)))) (ring_copy, tt);
         batches_are = appended-more so_far.added outer.added [] batches batches_then so_far.batches_are outer.appended.joined outer.appended.each;
@@ -417,7 +423,9 @@ module _ (space : GlobalSpace) (engine : ℕ) (whole : Result Got Reason) (ring 
 
 pub ring-begins : (space : GlobalSpace) (engine : ℕ) (ring : List ℕ) (left : ℕ) → RingSoFar space engine (whole_ring space engine ring left) ring 0 left [] []
 ring-begins space engine ring left = record {
-  items = none; commands = []; added = [];
+  items = none;
+  commands = [];
+  added = [];
   is = nothing-behind (whole_ring space engine ring left);
   own_is = appended-none [];
   batches_are = appended-none [];
@@ -427,7 +435,7 @@ ring-begins space engine ring left = record {
 pub ring-done : (space : GlobalSpace) (engine : ℕ) (whole : Result Got Reason) (ring : List ℕ) (at left : ℕ) (own batches : List ℕ) → RingSoFar space engine whole ring at left own batches → length ring ≤ at → RingDone whole own batches
 ring-done space engine whole ring at left own batches so_far end =
     let all : whole ≡ Ok record { items = joined so_far.items none; budget = left } =
-        sym so_far.is ∙ ap (behind_these so_far.items) (ap (λ xs. whole_ring space engine xs left) (drop_all at ring end) ∙ ring-none space engine left) in
+    sym so_far.is ∙ ap (behind_these so_far.items) (ap (λ xs. whole_ring space engine xs left) (drop_all at ring end) ∙ ring-none space engine left) in
     record {
       items = so_far.items;
       is = ap items_of all ∙ ap Ok (joined-none so_far.items);

@@ -2,7 +2,6 @@
 use Rattle.std.specs.Prelude.{ℕ, ◌≡◌, ◌≤◌, ◌++◌, List, [], drop, Result, Ok, Err}
 use Rattle.std.specs.List.{concat}
 use Rattle.gv_types.specs.declared.reply.Reason.{Reason}
-use Rattle.gv_cmd.specs.declared.stands.Stands.{Stands}
 use Rattle.gv_cmd.specs.declared.stands.Stands.TheVariants.{Privileged, Second}
 use Rattle.gv_fetch.specs.Items.{Items, none, command, batch, start_at}
 use Rattle.gv_fetch.specs.Fetch.{GlobalSpace, Got, then, whole_batch, whole_ring, items_of}

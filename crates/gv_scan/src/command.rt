@@ -145,7 +145,9 @@ pub(crate) fn started(command: &Command) -> Option<u64>
 {
     match command.kind() {
         Kind::BatchStart {
-            live: false, at, ..
+            live: false,
+            at,
+            ..
         } => Some(at),
         _ => None,
     }

@@ -15,3 +15,6 @@ pub use fault::ScanFault;
 pub use program::Program;
 pub use reader::Reader;
 pub use ring::scan;
+
+#[cfg(test)]
+mod tests;

@@ -42,7 +42,10 @@ pub(crate) fn owns_operands<R: Reader>(reader: &R, command: &Command) -> bool
     match command.kind() {
         Kind::SemaphoreWait { global, at, .. } => owns_access(reader, global, at),
         Kind::Store {
-            global, at, high, ..
+            global,
+            at,
+            high,
+            ..
         } => owns_store(reader, global, at, high),
         Kind::StoreRegister { global, at, .. } => owns_access(reader, global, at),
         Kind::LoadRegister { global, at, .. } => owns_access(reader, global, at),

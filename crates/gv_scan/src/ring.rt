@@ -27,11 +27,7 @@ fn owns_pages<R: Reader>(reader: &R, first: u64, count: u64) -> bool
 }
 
 /// Reads the ring's dwords from the head to the tail.
-fn read_ring<R: Reader>(
-    alloc: Global,
-    reader: &R,
-    image: &Image,
-) -> Result<Vec<u32>, ScanFault>
+fn read_ring<R: Reader>(alloc: Global, reader: &R, image: &Image) -> Result<Vec<u32>, ScanFault>
     requires image { IsImage image.now }
     requires owned { owns_pages (R.space reader.now) (image.now.start / 4096) image.now.pages ≡ true }
     requires low { image.now.start + image.now.pages * 4096 ≤ 2 ^ 32 }

@@ -1,16 +1,14 @@
-use Rattle.std.proofs.Common.{◌≡◌, ◌∙◌, ap, sym, subst, true, false, List, ℕ, length, arith}
+use Rattle.std.proofs.Common.{◌≡◌, ◌∙◌, ap, sym, length, arith}
 use Rattle.gv_fetch.proofs.Reading.{length-dwords}
 use Rattle.gv_fetch.proofs.Forms.{listed-some}
-use Rattle.gv_cmd.specs.Allowed.{is_allowed}
 use Rattle.gv_cmd.specs.Table.{length_of}
-use Rattle.gv_fetch.specs.Fetch.{GlobalSpace, owns_operands}
-use Rattle.gv_scan.proofs.Tests.{not-allowed, too-long, operand-away, all-passed, unlisted}
+use Rattle.gv_scan.proofs.FrontCommand.{unlisted}
 use Rattle.gv_scan.proofs.command.batch_command.Goals as goal
 
 pub returns-in_default-command_at-clause-value : goal.returns-in_default-command_at-clause-value
 returns-in_default-command_at-clause-value g c =
     sym (unlisted (g.R.Reader.space c.args.reader.now) c.args.engine.0 c.args.stands c.args.at c.args.budget c.in-Some.count
-        (sym c.owned.ensures ∙ c.if-not-owned.false) (ap length_of (sym c.word.ensures) ∙ sym c.length.ensures.value ∙ c.in-Some.is) (sym c.owns_dwords.ensures ∙ c.if-not-owns_dwords.false) c.in_default-command_at.ensures)
+    (sym c.owned.ensures ∙ c.if-not-owned.false) (ap length_of (sym c.word.ensures) ∙ sym c.length.ensures.value ∙ c.in-Some.is) (sym c.owns_dwords.ensures ∙ c.if-not-owns_dwords.false) c.in_default-command_at.ensures)
 
 pub returns-clause-long : goal.returns-clause-long
 returns-clause-long g c =

@@ -1,7 +1,7 @@
-use Rattle.std.proofs.Common.{◌≡◌, ◌∙◌, ap, sym, subst, List, ℕ, Option, Ok, Err, length}
+use Rattle.std.proofs.Common.{◌≡◌, subst, List, ℕ, Ok, Err, length}
 use Rattle.std.specs.Prelude.{MatchOption}
 use Rattle.gv_cmd.specs.Command.{decoded}
-use Rattle.gv_scan.proofs.Tests.{at-front}
+use Rattle.gv_scan.proofs.FrontCommand.{at-front}
 use Rattle.gv_scan.proofs.command.command_at.Goals as goal
 
 pub returns : goal.returns

@@ -1,4 +1,4 @@
-use Rattle.std.proofs.Common.{◌≡◌, ◌<◌, ◌-◌, ◌+◌, ◌*◌, ◌∙◌, ap, sym, arith}
+use Rattle.std.proofs.Common.{◌≡◌, ◌-◌, ◌+◌, ◌*◌, ◌∙◌, ap, sym, arith}
 use Rattle.gv_fetch.specs.Fetch.{owns_dwords}
 use Rattle.gv_scan.proofs.Dwords.{owns-none, unowned-at, owned-on}
 use Rattle.gv_scan.proofs.command.owns_dwords.Goals as goal

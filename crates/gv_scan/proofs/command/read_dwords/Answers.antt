@@ -1,4 +1,4 @@
-use Rattle.std.proofs.Common.{◌≡◌, ◌<◌, ◌-◌, ◌+◌, ◌*◌, ◌/◌, ◌^◌, ◌∙◌, ap, sym, refl, arith, length, true}
+use Rattle.std.proofs.Common.{◌<◌, ◌+◌, ◌*◌, ◌/◌, ◌^◌, ◌∙◌, sym, refl, arith, length}
 use Rattle.std.proofs.lemmas.List.{length-set}
 use Rattle.gv_scan.proofs.Dwords.{dwords-none, owned-at, read-step}
 use Rattle.gv_scan.proofs.command.read_dwords.Goals as goal

@@ -1,4 +1,4 @@
-use Rattle.std.proofs.Common.{◌≡◌, ◌≤◌, ◌∙◌, ap, sym, arith, length}
+use Rattle.std.proofs.Common.{◌∙◌, ap, sym, arith, length}
 use Rattle.gv_scan.proofs.Pages.{ring-low, ring-small}
 use Rattle.gv_scan.proofs.ring.scan.Goals as goal
 

@@ -1,4 +1,4 @@
-use Rattle.std.proofs.Common.{◌≡◌, ℕ, ◌+◌, ◌-◌, ◌<◌, ◌≤◌, ◌∙◌, ap, sym, subst, arith, length, length-append, length-drop, [], List, Ok, take, drop}
+use Rattle.std.proofs.Common.{ℕ, ◌+◌, ◌∙◌, ap, sym, subst, arith, length, length-append, length-drop, [], List, drop}
 use Rattle.std.proofs.lemmas.List.{take_rest}
 use Rattle.gv_cmd.specs.declared.stands.Stands.TheVariants.{Privileged}
 use Rattle.gv_fetch.specs.Items.{start_at}
@@ -35,7 +35,7 @@ returns-in-Err-with_first_level-clause-fault g c =
     let is = ap (ring_command space c.args.engine.0) (sym (take_rest c.args.ring.now c.commands.at)) ∙ sym c.ring_command.ensures.value ∙ c.in-Ok.is in
     fault-lifts (whole_batch space c.args.engine.0 Privileged c.in-Some.to c.commands.left) _ c.in-Err-with_first_level.fault c.in-Err-with_first_level.ensures.fault
     (λ reason inner. ring-inner-refused space c.args.engine.0 _ c.args.ring.now c.commands.at c.commands.left _ _ c.commands.invariant.so_far c.commands-test.true c.in-Ok.command is
-        c.in-Some.ensures.start.0 c.in-Some.to reason c.in-Some.ensures.start.1 inner)
+    c.in-Some.ensures.start.0 c.in-Some.to reason c.in-Some.ensures.start.1 inner)
 
 pub commands-preserved-in-Some : goal.commands-preserved-in-Some
 commands-preserved-in-Some g c =
@@ -43,7 +43,7 @@ commands-preserved-in-Some g c =
     let is = ap (ring_command space c.args.engine.0) (sym (take_rest c.args.ring.now c.commands.at)) ∙ sym c.ring_command.ensures.value ∙ c.in-Ok.is in
     let done = c.in-Ok-with_first_level.ensures.done in
     let so_far = ring-starts space c.args.engine.0 _ c.args.ring.now c.commands.at c.commands.left _ _ c.commands.invariant.so_far c.commands-test.true c.in-Ok.command is
-        c.in-Some.ensures.start.0 c.in-Some.to done.offset c.in-Ok-with_first_level.rest c.with_first_level.new.own.items c.with_first_level.new.batches.items c.in-Some.ensures.start.1 done.outer done.start in
+    c.in-Some.ensures.start.0 c.in-Some.to done.offset c.in-Ok-with_first_level.rest c.with_first_level.new.own.items c.with_first_level.new.batches.items c.in-Some.ensures.start.1 done.outer done.start in
     let P : ℕ → Type 0 = λ n. RingSoFar space c.args.engine.0 (whole_ring space c.args.engine.0 c.args.ring.now 262144) c.args.ring.now (c.commands.at + n) c.in-Ok-with_first_level.rest c.with_first_level.new.own.items c.with_first_level.new.batches.items in
     record {
       within =
@@ -66,7 +66,7 @@ commands-preserved g c =
     let space = g.R.Reader.space c.args.reader.now in
     let is = ap (ring_command space c.args.engine.0) (sym (take_rest c.args.ring.now c.commands.at)) ∙ sym c.ring_command.ensures.value ∙ c.in-Ok.is in
     let so_far = ring-goes space c.args.engine.0 _ c.args.ring.now c.commands.at c.commands.left _ _ c.commands.invariant.so_far c.commands-test.true c.in-Ok.command is
-        c.append.new.list.items c.in_ok-append.ensures.items c.in_default.ensures.start in
+    c.append.new.list.items c.in_ok-append.ensures.items c.in_default.ensures.start in
     let P : ℕ → Type 0 = λ n. RingSoFar space c.args.engine.0 (whole_ring space c.args.engine.0 c.args.ring.now 262144) c.args.ring.now (c.commands.at + n) c.commands.left c.append.new.list.items c.commands.batches.items in
     record {
       within =
