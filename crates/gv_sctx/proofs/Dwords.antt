@@ -1,9 +1,9 @@
 -- A dword of a page, after another or itself was written.
-use Rattle.std.proofs.Common.{◌≡◌, ◌≢◌, ℕ, suc, zero, ◌+◌, ◌*◌, ◌/◌, ◌%◌, ◌^◌, ◌<◌, ◌≤◌, Bool, true, false, cond, eqb, List, length, get_or, set, refl, ap, sym, subst, ◌∙◌, arith, lit<, get_or-set_same, get_or-set_other}
+use Rattle.std.proofs.Common.{◌≡◌, ◌≢◌, ℕ, suc, zero, ◌+◌, ◌*◌, ◌/◌, ◌%◌, ◌^◌, ◌<◌, Bool, true, false, cond, eqb, List, length, get_or, refl, ap, sym, ◌∙◌, arith, lit<, get_or-set_same, get_or-set_other}
 use Rattle.std.proofs.lemmas.List.{length-set}
 use Rattle.std.proofs.lemmas.Bool.{eqb-true}
 use Rattle.std.proofs.lemmas.Bool.Decides.{nat_tests}
-use Rattle.gv_types.specs.Memory.{half_of, with_half}
+use Rattle.gv_types.specs.Memory.{with_half}
 use Rattle.gv_gpu.specs.Context.{field_dwords}
 use Rattle.gv_sctx.specs.Image.{page_dword, with_dword}
 

@@ -1,11 +1,11 @@
 -- A filled image holds what was filled in.
-use Rattle.std.proofs.Common.{◌≡◌, ℕ, suc, zero, ◌+◌, ◌*◌, ◌/◌, ◌%◌, ◌^◌, ◌<◌, ◌≤◌, true, cond, eqb, List, [], ◌∷◌, length, get_or, refl, ap, sym, subst, ◌∙◌, arith, lit<}
+use Rattle.std.proofs.Common.{◌≡◌, ℕ, ◌+◌, ◌*◌, ◌/◌, ◌^◌, ◌<◌, true, cond, eqb, List, [], ◌∷◌, length, refl, ap, ◌∙◌, arith, lit<}
 use Rattle.std.proofs.lemmas.List.{length-set}
 use Rattle.std.proofs.lemmas.Bool.Decides.{nat_tests}
 use Rattle.gv_ctx.specs.Saved.{fields_of, saved_of}
 use Rattle.gv_ctx.specs.declared.saved.Saved.{Saved}
 use Rattle.gv_ctx.proofs.Places.{saved_of-fields_of}
-use Rattle.gv_gpu.specs.Device.{Device, Loaded, put}
+use Rattle.gv_gpu.specs.Device.{Device, put}
 use Rattle.gv_gpu.specs.Context.{state_dword, context_of}
 use Rattle.gv_gpu.specs.Part.{Part, outside}
 use Rattle.gv_gpu.proofs.Changed.{outside-poked}

@@ -1,18 +1,16 @@
 -- A context is put away into its image, and comes back from it as it was.
-use Rattle.std.proofs.Common.{◌≡◌, ◌≢◌, ℕ, suc, zero, ◌+◌, ◌*◌, ◌/◌, ◌%◌, ◌^◌, ◌<◌, ◌≤◌, Bool, true, false, cond, eqb, ltb, List, [], ◌∷◌, length, get_or, Option, None, Some, is_some, refl, ap, sym, subst, ◌∙◌, arith, lit<}
+use Rattle.std.proofs.Common.{◌≡◌, ◌≢◌, ℕ, suc, zero, ◌+◌, ◌*◌, ◌/◌, ◌%◌, ◌^◌, ◌<◌, Bool, true, false, cond, eqb, ltb, List, [], ◌∷◌, length, get_or, Option, None, Some, is_some, refl, ap, sym, subst, ◌∙◌, arith, lit<}
 use Rattle.std.proofs.lemmas.Bool.Decides.{nat_tests}
 use Rattle.gv_types.specs.Memory.{half_of, with_half}
 use Rattle.gv_types.specs.declared.ids.Label.{Label}
 use Rattle.gv_ctx.specs.Descriptor.{descriptor_of}
 use Rattle.gv_ctx.specs.Saved.{fields_of, saved_of}
-use Rattle.gv_ctx.specs.declared.saved.Saved.{Saved}
 use Rattle.gv_ctx.proofs.Places.{saved_of-fields_of}
 use Rattle.gv_gpu.specs.Device.{Device, Loaded, put, with_loaded, with_word}
-use Rattle.gv_gpu.specs.Part.{is_in_windows}
-use Rattle.gv_gpu.specs.Physical.{image_of, page_of, live_page, read_page, write_page, word_in, word_stored, operand_at, operand_stored}
+use Rattle.gv_gpu.specs.Physical.{page_of, read_page, write_page, word_in, word_stored, operand_at, operand_stored}
 use Rattle.gv_gpu.specs.Context.{state_at, state_dword, field_dwords, fields_stored, context_saved, context_of, stopped_with, stopped, loaded_after, submitted}
 use Rattle.gv_sctx.specs.Image.{page_dword, with_dword, saved_in}
-use Rattle.gv_sctx.specs.Context.{shadow_label, window_page, HasImage, HoldsContext}
+use Rattle.gv_sctx.specs.Context.{HasImage, HoldsContext}
 use Rattle.gv_sctx.proofs.Dwords.{fields_in, field_in, length-fields, fields-after}
 
 -- the words of a page, all at once
@@ -142,7 +140,9 @@ words-there d page words = put-same d.words page words
 
 has-words : (d : Device) (guest descriptor image : ℕ) (words : List ℕ) → length words ≡ 512 → HasImage d guest descriptor image → HasImage (with_words d image words) guest descriptor image
 has-words d guest descriptor image words long has = record {
-  below = has.below; entry = has.entry; label = has.label;
+  below = has.below;
+  entry = has.entry;
+  label = has.label;
   long = ap length (words-there d image words) ∙ long;
 }
 

@@ -1,5 +1,5 @@
 -- The second page of a shadow image, as dwords: where each field stands, and what holds it.
-use Rattle.std.specs.Prelude.{ℕ, suc, zero, ◌+◌, ◌*◌, ◌/◌, ◌^◌, ◌<◌, List, [], ◌∷◌, slice_index, slice_set}
+use Rattle.std.specs.Prelude.{ℕ, ◌*◌, ◌/◌, ◌^◌, ◌<◌, List, [], ◌∷◌, slice_index, slice_set}
 use Rattle.gv_types.specs.Memory.{half_of, with_half}
 use Rattle.gv_ctx.specs.Saved.{high_of, low_of, state_of, saved_of}
 use Rattle.gv_ctx.specs.declared.saved.Saved.{Saved}

@@ -1,4 +1,5 @@
-ghost use Rattle.std.specs.Prelude.{◌≡◌, ◌<◌, IsSome, length};
+ghost use Rattle.std.specs.Prelude.{◌≡◌, ◌<◌, true, IsSome, length};
+ghost use Rattle.gv_gpu.specs.Part.{Part, outside};
 ghost use Rattle.gv_sctx.specs.Image.{page_dword, dword_poked, dwords_poked, image_fields, AreDwords, saved_in};
 
 use gv_ctx::Saved;
@@ -74,6 +75,8 @@ pub fn fill<G: Gpu>(
     requires live { IsSome ((G.state gpu.old).label image_page) }
     requires root { shadow_root < 131072 }
     ensures device { G.state gpu.new ≡ dwords_poked (G.state gpu.old) image_page (image_fields start saved.now tail shadow_root) }
+    ensures labels { (G.state gpu.new).label ≡ (G.state gpu.old).label }
+    ensures outside { (p : Part) → p.page image_page ((G.state gpu.old).label image_page) ≡ true → outside p (G.state gpu.new) ≡ outside p (G.state gpu.old) }
 
     // On a page of 512 words the place is the one that `saved` answers.
     ensures place { length ((G.state gpu.old).words image_page) ≡ 512 → saved_in ((G.state gpu.new).words image_page) ≡ saved.now }

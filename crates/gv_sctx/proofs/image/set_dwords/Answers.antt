@@ -1,8 +1,8 @@
-use Rattle.std.proofs.Common.{◌≡◌, ℕ, ◌+◌, List, ◌∷◌, drop, get_or, refl, sym, ap, subst, ◌∙◌}
+use Rattle.std.proofs.Common.{◌≡◌, ◌+◌, ◌∷◌, drop, get_or, sym, ap, subst, ◌∙◌}
 use Rattle.std.proofs.lemmas.List.{at_drop_more, drop_all}
 use Rattle.std.specs.Prelude.{IsSome}
 use Rattle.gv_gpu.specs.Device.{Device}
-use Rattle.gv_sctx.specs.Image.{dword_poked, dwords_poked, AreDwords}
+use Rattle.gv_sctx.specs.Image.{dwords_poked, AreDwords}
 use Rattle.gv_sctx.proofs.Filling.{poked-first, poked-none}
 use Rattle.gv_sctx.proofs.image.set_dwords.Goals as goal
 
