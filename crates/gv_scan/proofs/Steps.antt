@@ -441,11 +441,13 @@ ring-done space engine whole ring at left own batches so_far end =
       is = ap items_of all ∙ ap Ok (joined-none so_far.items);
       program = record {
         layout = record { ring = so_far.commands; batches = so_far.added; base = 0 };
-        offsets = refl;
-        ring_is = sym so_far.own_is.joined;
-        batches_are = sym so_far.batches_are.joined;
-        ring_copies = so_far.own_is.each;
-        batch_copies = so_far.batches_are.each;
+        is = record {
+          offsets = refl;
+          ring_is = sym so_far.own_is.joined;
+          batches_are = sym so_far.batches_are.joined;
+          ring_copies = so_far.own_is.each;
+          batch_copies = so_far.batches_are.each;
+        };
         follows = record { rest = so_far.commands; begins = record { before = []; split = refl; count = refl }; copies = so_far.copies };
       };
     }

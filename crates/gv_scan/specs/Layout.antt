@@ -70,15 +70,18 @@ abbrev pub AreCopies : List (List ℕ) → Type 0
 AreCopies [] = Unit {0}
 AreCopies (c ∷ more) = IsCopy c × AreCopies more
 
--- Two lists of dwords, which are whole commands, in which the starts hold byte offsets. From the front
--- of the ring they are the copies of the items.
-pub record IsProgram (ring batches : List ℕ) (items : Items) : Type 0 where
-  pub layout : Layout
+-- Two lists of dwords are these commands, in which the starts hold byte offsets.
+pub record IsLayout (ring batches : List ℕ) (layout : Layout) : Type 0 where
   pub offsets : layout.base ≡ 0
   pub ring_is : concat layout.ring ≡ ring
   pub batches_are : concat layout.batches ≡ batches
   pub ring_copies : AreCopies layout.ring
   pub batch_copies : AreCopies layout.batches
+
+-- From the front of the ring they are the copies of the items.
+pub record IsProgram (ring batches : List ℕ) (items : Items) : Type 0 where
+  pub layout : Layout
+  pub is : IsLayout ring batches layout
   pub follows : RingAt layout 0 items
 
 -- dwords that are whole commands

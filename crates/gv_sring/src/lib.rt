@@ -1,13 +1,12 @@
-// A library with one function.
+//! Copies of programs in the mediator's window of the global table, and the two pages of the shadow
+//! image beside them.
 #![tactic(auto)]
 
-ghost use Rattle.std.specs.Prelude.{◌≡◌};
-ghost use Rattle.gv_sring.specs.Echo.{echo_of};
+mod laws;
+mod pack;
+mod pages;
+mod place;
+mod shadow;
 
-// The `ensures` clause is the contract: what `echo` returns is `echo_of` of its argument, a definition
-// in `specs/Echo.antt`, which a caller's clause can cite too.
-pub fn echo(x: usize) -> usize
-    ensures { result ≡ echo_of x }
-{
-    x
-}
+pub use laws::shadows_have_images;
+pub use shadow::{Shadow, build, drop_all};
