@@ -1,13 +1,10 @@
-// A library with one function.
+//! The place of a context in its copies: where the loaded context, or a shadow image, stands for what is
+//! left of an element. Definitions, and their laws as contracts of functions with nothing to run.
 #![tactic(auto)]
 
-ghost use Rattle.std.specs.Prelude.{◌≡◌};
-ghost use Rattle.gv_place.specs.Echo.{echo_of};
+mod laws;
 
-// The `ensures` clause is the contract: what `echo` returns is `echo_of` of its argument, a definition
-// in `specs/Echo.antt`, which a caller's clause can cite too.
-pub fn echo(x: usize) -> usize
-    ensures { result ≡ echo_of x }
-{
-    x
-}
+pub use laws::{
+    contexts_stand_by_their_images, fetched_code_runs_from_its_copy, live_code_is_read_in_place,
+    places_stand_for_what_is_left, steps_are_the_guests_own,
+};

@@ -126,7 +126,7 @@ put-again f k v w n = by (eqb n k)
 put-own : {A : Type 0} (f : ℕ → A) (k n : ℕ) → put f k (f k) n ≡ f n
 put-own f k n = grind (arith, nat_tests)
 
-put-other : {A : Type 0} (f : ℕ → A) (k : ℕ) (v : A) (n : ℕ) → n ≢ k → put f k v n ≡ f n
+pub put-other : {A : Type 0} (f : ℕ → A) (k : ℕ) (v : A) (n : ℕ) → n ≢ k → put f k v n ≡ f n
 put-other f k v n differ = grind (arith, nat_tests)
 
 words-again : (d : Device) (page : ℕ) (one two : List ℕ) → with_words (with_words d page one) page two ≡ with_words d page two
@@ -185,7 +185,7 @@ module _ (d : Device) (image engine : ℕ) (l : Loaded) (is : d.loaded engine �
   abbrev put_away : Device
   put_away = with_words d image (fields_in (d.words image) (fields_of l.place) 7)
 
-  stopped-is : stopped d engine ≡ with_loaded put_away engine None
+  pub stopped-is : stopped d engine ≡ with_loaded put_away engine None
   unfolding stopped
   stopped-is = ap (stopped_with d engine) is ∙ ap (λ x. with_loaded x engine None) (fields-stored d l.owner l.descriptor image has (fields_of l.place) small 7)
 

@@ -10,3 +10,6 @@ mod shadow;
 
 pub use laws::shadows_have_images;
 pub use shadow::{Shadow, build, drop_all};
+
+#[cfg(test)]
+mod tests;
