@@ -1,0 +1,14 @@
+pub mod Kept
+pub mod Strays
+pub mod Reading
+pub mod Levels
+pub mod Ahead
+pub mod Moves
+pub mod Ends
+pub mod Runs
+pub mod LiveBatch
+pub mod Stepping
+pub mod Stores
+pub mod Loading
+pub mod Seeing
+pub mod Contexts

@@ -1,0 +1,4 @@
+pub mod Place
+pub mod Seen
+pub mod Steps
+pub mod Laws

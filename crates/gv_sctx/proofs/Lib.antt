@@ -1,0 +1,3 @@
+pub mod Dwords
+pub mod Saving
+pub mod Filling

@@ -1,0 +1,4 @@
+pub mod Window
+pub mod Copy
+pub mod Packing
+pub mod Laws
