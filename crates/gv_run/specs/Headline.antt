@@ -1,5 +1,5 @@
 -- What the program promises of a run.
-use Rattle.std.specs.Prelude.{◌≡◌, ℕ, ◌<◌, List, [], ◌∷◌, Bool, true, false, Option, length, take, codes}
+use Rattle.std.specs.Prelude.{◌≡◌, ℕ, ◌<◌, ◌≤◌, List, [], ◌∷◌, Bool, true, false, Option, Some, IfSome, length, take, drop, codes}
 use Rattle.std.specs.Str.{bytes_eq}
 use Rattle.std.specs.Io.KnownBytes.{Appends}
 use Rattle.gv_text.specs.Guest.{lines_of_guest}
@@ -28,6 +28,10 @@ tells_ending Done = true
 tells_ending (BadScript n) = true
 tells_ending TooLong = true
 tells_ending status = false
+
+-- A front of at most so many bytes was taken from a source.
+abbrev pub TakesAtMost : ℕ → Option (List ℕ) → Option (List ℕ) → Type 0
+TakesAtMost most before after = (n : ℕ) × (n ≤ most) × IfSome before (λ bytes. after ≡ Some (drop n bytes))
 
 -- a front of the script's report was written
 abbrev pub WritesPart : Option (List ℕ) → Option (List ℕ) → List ℕ → Type 0

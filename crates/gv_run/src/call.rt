@@ -5,7 +5,7 @@ ghost use Rattle.gv_gpu.specs.Change.{Ran, RanPart};
 ghost use Rattle.gv_gpu.specs.Device.{IsEmpty};
 ghost use Rattle.gv_run.specs.Report.{report_of, ending_of, machine_of, commands_in};
 ghost use Rattle.gv_text.specs.Script.{script_limit};
-ghost use Rattle.gv_run.specs.Headline.{is_run, status_of, tells_ending, WritesPart, WritesPrivate, RanPartOf, IsOfPlay};
+ghost use Rattle.gv_run.specs.Headline.{is_run, status_of, tells_ending, TakesAtMost, WritesPart, WritesPrivate, RanPartOf, IsOfPlay};
 ghost use Rattle.gv_run.specs.Tied.{Keeps};
 
 use crate::script::{LIMIT, run_script};
@@ -78,6 +78,7 @@ fn status_of(ending: Ending) -> Status
 fn read_script<S: Source>(alloc: Global, source: &mut S, most: usize) -> Result<Vec<u8>, ReadFailed>
     requires { most ≡ script_limit + 1 }
     ensures ok { IfOk result (λ text. IfSome (S.left source.old) (λ bytes. text.items ≡ take (script_limit + 1) bytes)) }
+    ensures taken { TakesAtMost (script_limit + 1) (S.left source.old) (S.left source.new) }
     ensures failed { IsErrOf result ReadFailed.Source → Rose (S.faults source.old) (S.faults source.new) }
 {
     let text = read_up_to(alloc, source, most)?;
@@ -124,6 +125,9 @@ pub fn mediate<S: Source, K: Sink, G: Gpu>(
     ensures report { tells_ending result ≡ true → IfSome (S.left source.old) (λ bytes. Appends (K.held sink.old) (K.held sink.new) (report_of bytes)) }
     ensures part { IfSome (S.left source.old) (WritesPart (K.held sink.old) (K.held sink.new)) }
     ensures private { tells_ending result ≡ true → IfSome (S.left source.old) (WritesPrivate (K.held sink.old) (K.held sink.new)) }
+
+    // No byte is taken behind the first one past the limit.
+    ensures taken { TakesAtMost (script_limit + 1) (S.left source.old) (S.left source.new) }
 
     // The device ran these devices' commands, touched no page of another guest, and has their memory.
     ensures journal { tells_ending result ≡ true → IfSome (S.left source.old) (λ bytes. (G.state gpu.new).journal ≡ commands_in bytes) }
