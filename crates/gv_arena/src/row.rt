@@ -3,7 +3,7 @@ ghost use Rattle.std.specs.Prelude.{◌≡◌, ℕ, ◌+◌, ◌*◌, ◌/◌, �
 ghost use Rattle.std.specs.Int.{w64, byte_at, to_le_bytes, from_le_bytes};
 ghost use Rattle.gv_arena.specs.Rows.{bytes_of, overwritten, row_copied, AreWords, IsCopied, IsRowCopied};
 
-use crate::chunk::{PAGE_WORDS, Page};
+use crate::block::{PAGE_WORDS, Page};
 
 /// How many bytes a word has.
 const WORD_BYTES: usize = 8;
@@ -102,6 +102,7 @@ pub(crate) fn copy_bytes(
     requires to { to_byte + count ≤ 4096 }
     ensures row { target.new ≡ row_copied source.now from_byte target.old to_byte count }
     ensures copied { IsRowCopied source.now target.old target.new from_byte to_byte count }
+    ensures words { AreWords target.old }
 {
     let mut done = 0;
     while done < count {
