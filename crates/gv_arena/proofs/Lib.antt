@@ -10,6 +10,7 @@ mod Items
 mod Joined
 mod Loan
 mod Longer
+pub mod Nothing
 mod OnAny
 pub mod Overwriting
 mod Padding

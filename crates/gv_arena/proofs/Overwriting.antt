@@ -35,7 +35,7 @@ module _ (xs : List ℕ) (at : ℕ) (piece : List ℕ) (fits : at + length piece
   pub length-overwritten : length (overwritten xs at piece) ≡ length xs
   length-overwritten = omega (arith, front, length-append (take at xs) (piece ++ drop (at + length piece) xs), length-append piece (drop (at + length piece) xs), length-drop (at + length piece) xs)
 
-bytes_below : (n i : ℕ) → get_or (to_le_bytes w64 n) i 0 < 256
+pub bytes_below : (n i : ℕ) → get_or (to_le_bytes w64 n) i 0 < 256
 bytes_below n i = elim (cases_lt i 8) [
   | inl lt ↦ subst (λ (b : ℕ). b < 256) (sym (byte_in_list n i lt)) (byte_below i n)
   | inr le ↦ subst (λ (b : ℕ). b < 256) (sym (get_or_past (to_le_bytes w64 n) i 0 le)) (omega arith)

@@ -1,10 +1,23 @@
--- A page whose bytes are those of the page before, with a row of another page's bytes in them, has the words of the row's definition.
+-- Rows of bytes. A page whose bytes are those of the page before, with a row of another page's bytes in them, has the words of the row's definition.
 use Rattle.std.proofs.Common.{◌≡◌, ℕ, ◌+◌, ◌-◌, ◌≤◌, List, length, take, drop, get_or, sym, ap, ◌∙◌, inl, inr, arith, length-drop, get_or-take, get_or-drop, ext_get_or}
 use Rattle.std.proofs.lemmas.Bool.{cases_lt}
 use Rattle.std.proofs.lemmas.List.{length-take-le}
 use Rattle.gv_arena.specs.Rows.{bytes_of, words_from, overwritten, row_copied, AreWords, IsCopied}
 use Rattle.gv_arena.proofs.PageBytes.{length-bytes_of, words_from-bytes_of}
 use Rattle.gv_arena.proofs.Overwriting.{below_piece, in_piece, above_piece, length-overwritten}
+
+-- a row, and what comes after it
+pub copied_more : (source old mid new : List ℕ) (from to n more : ℕ) → IsCopied source old mid from to n → IsCopied source mid new (from + n) (to + n) more → IsCopied source old new from to (n + more)
+copied_more source old mid new from to n more first second = record {
+  copied = λ i lt. elim (cases_lt i n) [
+    | inl early ↦ second.before (to + i) (omega arith) ∙ first.copied i early
+    | inr late ↦ (let there : to + n + (i - n) ≡ to + i = omega arith in
+        let here : from + n + (i - n) ≡ from + i = omega arith in
+        ap (λ (k : ℕ). get_or new k 0) (sym there) ∙ second.copied (i - n) (omega arith) ∙ ap (λ (k : ℕ). get_or source k 0) here)
+  ];
+  before = λ i lt. second.before i (omega arith) ∙ first.before i lt;
+  after = λ i le. second.after i (omega arith) ∙ first.after i (omega arith);
+}
 
 module _ (source old new : List ℕ) (from to count : ℕ) (source_words : length source ≡ 512) (old_words : length old ≡ 512) (new_words : length new ≡ 512) (fit : AreWords new)
     (from_within : from + count ≤ 4096) (to_within : to + count ≤ 4096) (copied : IsCopied (bytes_of source) (bytes_of old) (bytes_of new) from to count) where

@@ -1,7 +1,7 @@
 ghost use Rattle.std.specs.Prelude.{◌≡◌, ◌+◌, ◌<◌, ◌≤◌, Some, None, length, slice_index, slice_set, IfOk, IsOk, OnOk, OnErr, IsSome, IsTrue};
 ghost use Rattle.gv_types.specs.Memory.{zero_words};
 ghost use Rattle.gv_arena.specs.Contents.{nothing, words_at, words_of, is_live, live, with_page};
-ghost use Rattle.gv_arena.specs.Rows.{row_copied, AreWords, IsRowCopied};
+ghost use Rattle.gv_arena.specs.Rows.{row_copied, IsPage, IsRowCopied};
 
 use crate::numbers::Numbers;
 use crate::store::Store;
@@ -110,7 +110,8 @@ impl Arena {
         requires to_within { to_byte + count ≤ 4096 }
         ensures pages { self.new ≡ with_page self.old to (Some (row_copied (words_of self.old from) from_byte (words_of self.old to) to_byte count)) }
         ensures bytes { IsRowCopied (words_of self.old from) (words_of self.old to) (words_of self.new to) from_byte to_byte count }
-        ensures words { AreWords (words_of self.old to) }
+        ensures source { IsPage (words_of self.old from) }
+        ensures target { IsPage (words_of self.old to) }
     {
         self.store
             .copy_row(from as usize, from_byte, to as usize, to_byte, count);

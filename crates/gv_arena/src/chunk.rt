@@ -1,7 +1,7 @@
 //! A chunk of 64 pages.
 ghost use Rattle.std.specs.Prelude.{◌≡◌, ℕ, ◌+◌, ◌<◌, ◌≤◌, List, [], length, slice_index, slice_index_or, slice_set, IfOk};
 ghost use Rattle.gv_types.specs.Memory.{zero_words};
-ghost use Rattle.gv_arena.specs.Rows.{row_copied, AreWords, IsRowCopied};
+ghost use Rattle.gv_arena.specs.Rows.{row_copied, IsPage, IsRowCopied};
 ghost use Rattle.gv_arena.specs.Zeros.{zero_pages};
 
 use crate::block::{Block, PAGE_WORDS, Page};
@@ -84,7 +84,8 @@ impl Chunk {
         requires to_within { to_byte + count ≤ 4096 }
         ensures pages { self.new ≡ slice_set self.old slot (row_copied source.now from_byte (slice_index_or self.old slot []) to_byte count) }
         ensures copied { IsRowCopied source.now (slice_index_or self.old slot []) (row_copied source.now from_byte (slice_index_or self.old slot []) to_byte count) from_byte to_byte count }
-        ensures words { AreWords (slice_index_or self.old slot []) }
+        ensures source { IsPage source.now }
+        ensures target { IsPage (slice_index_or self.old slot []) }
     {
         let target = self.block.page_mut(slot);
         copy_bytes(source, from_byte, target, to_byte, count);

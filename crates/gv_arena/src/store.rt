@@ -1,7 +1,7 @@
 //! Chunks as one row of pages.
 ghost use Rattle.std.specs.Prelude.{◌≡◌, ℕ, ◌+◌, ◌<◌, ◌≤◌, List, [], length, slice_index, slice_index_or, slice_set, OnOk};
 ghost use Rattle.gv_types.specs.Memory.{zero_words};
-ghost use Rattle.gv_arena.specs.Rows.{row_copied, AreWords, IsRowCopied};
+ghost use Rattle.gv_arena.specs.Rows.{row_copied, IsPage, IsRowCopied};
 ghost use Rattle.gv_arena.specs.Store.{joined, AreChunks, IsLonger};
 
 use crate::block::{BLOCK_PAGES, Page};
@@ -97,7 +97,8 @@ impl Store {
         requires to_within { to_byte + count ≤ 4096 }
         ensures pages { self.new ≡ slice_set self.old to (row_copied (slice_index_or self.old from []) from_byte (slice_index_or self.old to []) to_byte count) }
         ensures copied { IsRowCopied (slice_index_or self.old from []) (slice_index_or self.old to []) (row_copied (slice_index_or self.old from []) from_byte (slice_index_or self.old to []) to_byte count) from_byte to_byte count }
-        ensures words { AreWords (slice_index_or self.old to []) }
+        ensures source { IsPage (slice_index_or self.old from []) }
+        ensures target { IsPage (slice_index_or self.old to []) }
     {
         let source = *self.page(from);
         self.chunks[to / BLOCK_PAGES].copy_in(to % BLOCK_PAGES, &source, from_byte, to_byte, count);

@@ -2,7 +2,7 @@
 use Rattle.std.proofs.Common.{◌∙◌, ℕ, List, [], Some, None, Option, length, set, get_or, sym, ap, subst, arith, length-set, get_or-set_same}
 use Rattle.gv_arena.specs.ArenaHolds.{shown, shown_page}
 use Rattle.gv_arena.specs.Contents.{padded, words_or_none, words_of}
-use Rattle.gv_arena.specs.Rows.{row_copied, AreWords, IsRowCopied}
+use Rattle.gv_arena.specs.Rows.{row_copied, IsPage, IsRowCopied}
 use Rattle.gv_arena.proofs.Padding.{get_or-padded}
 use Rattle.gv_arena.proofs.Shown.{shown_at}
 use Rattle.gv_arena.proofs.Fields.{page_within, pages_written, words_are, spare_is, mark_at}
@@ -57,5 +57,8 @@ returns-clause-bytes c =
     (subst (λ (old : List ℕ). IsRow (get_or a.store c.args.from []) old after) (sym to)
     (subst (λ (p : Option (List ℕ)). IsRow (get_or a.store c.args.from []) (get_or a.store page []) p) (sym new) c.copy_row.ensures.copied))
 
-pub returns-clause-words : goal.returns-clause-words
-returns-clause-words c = subst AreWords (sym (words_are c.self.inside c.args.self.now c.self.invariant c.self.view_is c.args.to c.requires.to)) c.copy_row.ensures.words
+pub returns-clause-source : goal.returns-clause-source
+returns-clause-source c = subst IsPage (sym (words_are c.self.inside c.args.self.now c.self.invariant c.self.view_is c.args.from c.requires.from)) c.copy_row.ensures.source
+
+pub returns-clause-target : goal.returns-clause-target
+returns-clause-target c = subst IsPage (sym (words_are c.self.inside c.args.self.now c.self.invariant c.self.view_is c.args.to c.requires.to)) c.copy_row.ensures.target

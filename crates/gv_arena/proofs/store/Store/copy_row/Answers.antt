@@ -1,6 +1,6 @@
 -- The row is read before it is written, so that both pages may be one.
 use Rattle.std.proofs.Common.{ℕ, ◌/◌, ◌%◌, List, [], get_or, set, arith, subst, ap, ◌∙◌}
-use Rattle.gv_arena.specs.Rows.{row_copied, AreWords, IsRowCopied}
+use Rattle.gv_arena.specs.Rows.{row_copied, IsPage, IsRowCopied}
 use Rattle.gv_arena.specs.Store.{joined}
 use Rattle.gv_arena.proofs.Joined.{chunk_within, page_is, chunk_set, chunks_kept}
 use Rattle.gv_arena.proofs.store.Store.copy_row.Goals as goal
@@ -36,6 +36,9 @@ returns-clause-copied c =
     subst (λ (source : List ℕ). IsRowCopied source old (row_copied source from old to n) from to n) c.page.ensures
     (subst (λ (target : List ℕ). IsRowCopied c.page.result.now target (row_copied c.page.result.now from target to n) from to n) is c.copy_in.ensures.copied)
 
-pub returns-clause-words : goal.returns-clause-words
-returns-clause-words c =
-    subst AreWords (page_is c.self.inside.chunks.items c.args.self.now c.self.invariant c.self.view_is c.args.to c.requires.to c.index_mut.result.now c.index_mut.ensures.value) c.copy_in.ensures.words
+pub returns-clause-source : goal.returns-clause-source
+returns-clause-source c = subst IsPage c.page.ensures c.copy_in.ensures.source
+
+pub returns-clause-target : goal.returns-clause-target
+returns-clause-target c =
+    subst IsPage (page_is c.self.inside.chunks.items c.args.self.now c.self.invariant c.self.view_is c.args.to c.requires.to c.index_mut.result.now c.index_mut.ensures.value) c.copy_in.ensures.target
