@@ -17,7 +17,7 @@ use denote.Param.Laws.{row_laws}
 use denote.Struct.Laws.{RawPtr-laws}
 use denote.Struct.Laws as struct
 use mir.Syntax.{Ty}
-use mir.Val.{Val, vptr, vstruct, vcons, vnil}
+use mir.Val.{Val, vstruct, vcons, vnil}
 use types.Kit.{Goal, Seq, Item, ‵, ◌$◌, drop, fsplit}
 use types.Logic.{Logic, sem}
 use types.Match.{live}

@@ -1,5 +1,5 @@
 -- An arena without pages has none, and none is live.
-use Rattle.std.proofs.Common.{◌≡◌, ℕ, [], None, Option, List, refl, ap, ◌∙◌}
+use Rattle.std.proofs.Common.{◌≡◌, ℕ, [], None, Option, List, refl}
 use Rattle.std.specs.Prelude.{cond}
 use Rattle.std.specs.Option.{is_some}
 use Rattle.gv_arena.specs.Contents.{nothing, words_at, live}

@@ -6,18 +6,16 @@ use base.Fml.{Lft, Fml, fhide}
 use base.Logic.{ent, sep}
 use contract.Monad.{fact}
 use native.Mathlib.Nat.{not-suc-le-zero, le_of_suc-le-suc}
-use denote.Builtin.{u64}
 use denote.Index.{place, place_is}
 use denote.Memory.{mem, shared_of, hidden_shr, each_shared}
 use denote.Opens.{shr_dup, unhide, hide}
 use denote.RattleType.{RattleType}
 use denote.RawPtr.{RawPtr, InBlock, block_of, count_of}
 use denote.Steps.{heard}
-use denote.Struct.Laws.{u64-copy}
 use denote.Struct.Lending.{in_block_says, lent_out}
 use denote.Struct.Owning.{shape, to}
 use denote.Struct.Struct.{Struct}
-use types.Kit.{Goal, Seq, Step, step, Item, ‵, raw, ◌⊛◌, ◌$◌, ◌∵◌, !, qed, by, keep, drop, use1, split, rewrite, fsplit, feq_l, done}
+use types.Kit.{Goal, Seq, Item, ‵, raw, ◌⊛◌, ◌$◌, ◌∵◌, !, qed, by, keep, drop, use1, split, rewrite, fsplit, feq_l, done}
 use types.Logic.{Logic, sem}
 use Rattle.gv_arena.proofs.Items.{at}
 use Rattle.gv_arena.proofs.block.Block.TheLaws.{the_row_laws}

@@ -60,13 +60,7 @@ impl SoftGpu {
 
     /// Stores a dword, and answers whether that strayed.
     #[tactic(auto, unfolding(gv_gpu::specs::Physical::operand_stored))]
-    pub(crate) fn store(
-        &mut self,
-        context: &Context,
-        global: bool,
-        at: u64,
-        value: u32,
-    ) -> bool
+    pub(crate) fn store(&mut self, context: &Context, global: bool, at: u64, value: u32) -> bool
         ensures left { whole self.new ≡ operand_stored (whole self.old) context.now.root global at value }
         ensures strayed { result ≡ write_strays (whole self.old) (loaded_of context.now) global at }
     {
@@ -81,10 +75,7 @@ impl SoftGpu {
         ensures strayed { result.1 ≡ read_strays (whole self.now) (loaded_of context.now) global at }
     {
         let reached = self.reading(context, global, at);
-        (
-            byte_of(self.word_in(reached.page, at), at),
-            reached.strayed,
-        )
+        (byte_of(self.word_in(reached.page, at), at), reached.strayed)
     }
 
     /// A dword at any address, and whether reading it strayed.

@@ -1,6 +1,5 @@
 -- One part more of the row is copied, and at the end the page's bytes are those of the row's definition.
-use Rattle.std.proofs.Common.{◌≡◌, ℕ, ◌+◌, ◌-◌, ◌≤◌, List, get_or, sym, ap, subst, ◌∙◌, refl, inl, inr, arith}
-use Rattle.std.proofs.lemmas.Bool.{cases_lt}
+use Rattle.std.proofs.Common.{◌≡◌, ℕ, subst, refl, arith}
 use Rattle.gv_arena.specs.Rows.{bytes_of, IsCopied}
 use Rattle.gv_arena.proofs.RowCopied.{copied_more, row_is}
 use Rattle.gv_arena.proofs.row.copy_bytes.Goals as goal

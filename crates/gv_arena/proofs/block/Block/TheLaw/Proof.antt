@@ -3,7 +3,7 @@ use base.Fml.{Fml, Lft}
 use base.Fraction.{full_share}
 use contract.BorrowLft.{⊑_static}
 use denote.Memory.{lone}
-use denote.Param.Shared.{Sharable, Sharables, array_shared, copy_shared}
+use denote.Param.Shared.{Sharable, array_shared, copy_shared}
 use denote.RawPtr.{lies_at}
 use denote.Shares.{Shares, Shares-less}
 use denote.Sharing.{ShrLaws}

@@ -1,5 +1,8 @@
 -- A block is asked for and filled with zeros.
-use Rattle.gv_arena.proofs.Steps.{ℕ, ◌^◌, List, [], ◌∷◌, refl, lit<, w64, proved, after, ftrue, fsep, flft, full_share, tables, fact, Val, vptr, vint, ‵, raw, ◌⊛◌, at_ret, ◌$◌, ◌∵◌, !, qed, done, move, keep, drop, use1, split, join, fjoin, feq_i, suffices, enter, of_opd, lit, stop, fld, assigns_last, first, blocks, exec, returns, alloc_all, pass_all, free_all, look_at, get, through, sets, env, yes, plain, nothing, Stays, walk_of, says, stay_dropped, Goes-dropped, ends_at}
+use Rattle.gv_arena.proofs.Steps.{ℕ, ◌^◌, List, [], ◌∷◌, refl, lit<, w64, proved, after, ftrue, fsep, flft, full_share, tables, fact, Val, vptr, vint, ‵, raw}
+use Rattle.gv_arena.proofs.Steps.{◌⊛◌, at_ret, ◌$◌, ◌∵◌, !, qed, done, move, keep, drop, use1, split, join, fjoin, feq_i, suffices, enter, of_opd, lit, stop}
+use Rattle.gv_arena.proofs.Steps.{fld, assigns_last, first, blocks, exec, returns, alloc_all, pass_all, free_all, look_at, get, through, sets, env, yes, plain}
+use Rattle.gv_arena.proofs.Steps.{nothing, Stays, walk_of, says, stay_dropped, Goes-dropped, ends_at}
 use types.Run.{addr, from, and_then, no_more, init}
 use types.ByLocal.{take_at, give_at, lands_as}
 use base.Logic.{id⊢}
@@ -28,7 +31,6 @@ use types.Kit.{any_q}
 use Rattle.gv_arena.proofs.Arms.{arm_of}
 use borrow.Table.OneValue.{part_in}
 use denote.Laws.{Is}
-use denote.Memory.{part_at}
 use denote.RawPtr.{block_ptr}
 use denote.Steps.{owned}
 use denote.Struct.Laws as Laws

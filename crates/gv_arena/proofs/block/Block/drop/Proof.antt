@@ -1,5 +1,8 @@
 -- The block goes back to the heap.
-use Rattle.gv_arena.proofs.Steps.{◌^◌, List, [], ◌∷◌, refl, ap, lit<, w64, proved, after, ftrue, fsep, flft, full_share, tables, fact, Val, vunit, vptr, vint, ‵, raw, ◌⊛◌, at_ret, ◌$◌, ◌∵◌, !, qed, done, move, keep, drop, use1, split, join, fsplit, fjoin, feq_i, suffices, enter, of_opd, lit, unit_lit, stop, fld, first, blocks, exec, returns, alloc_all, pass_all, free_all, look_at, get, sets, env, yes, plain, nothing, Stays, walk_of, stay_dropped, Goes-dropped, ends_at}
+use Rattle.gv_arena.proofs.Steps.{◌^◌, List, [], ◌∷◌, refl, ap, lit<, w64, proved, after, ftrue, fsep, flft, full_share, tables, fact, Val, vunit, vptr, vint}
+use Rattle.gv_arena.proofs.Steps.{‵, raw, ◌⊛◌, at_ret, ◌$◌, ◌∵◌, !, qed, done, move, keep, drop, use1, split, join, fsplit, fjoin, feq_i, suffices, enter}
+use Rattle.gv_arena.proofs.Steps.{of_opd, lit, unit_lit, stop, fld, first, blocks, exec, returns, alloc_all, pass_all, free_all, look_at, get, sets, env, yes}
+use Rattle.gv_arena.proofs.Steps.{plain, nothing, Stays, walk_of, stay_dropped, Goes-dropped, ends_at}
 use base.Logic.{emp, id⊢}
 use contract.Monad.{fact_i}
 use denote.Builtin.{unit}

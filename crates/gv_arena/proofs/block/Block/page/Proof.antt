@@ -1,5 +1,8 @@
 -- A page is lent through the pointer.
-use Rattle.gv_arena.proofs.Steps.{◌+◌, ◌*◌, ◌^◌, ◌<◌, List, [], ◌∷◌, get_or, refl, lit<, w64, arith, proved, after, ftrue, fsep, flft, tables, fact, named, Val, vptr, ‵, raw, ◌⊛◌, at_ret, ◌$◌, ◌∵◌, !, qed, done, move, keep, drop, split, join, fsplit, fjoin, feq_i, suffices, enter, of_opd, bin, stop, fld, load, first, blocks, exec, returns, alloc_all, pass_all, free_all, look_at, get, through, sets, env, usize, yes, uint_vals, uint_Tells, plain, nothing, heard, Stays, walk_of, says, stay_dropped, Goes-dropped, ends_at}
+use Rattle.gv_arena.proofs.Steps.{◌+◌, ◌*◌, ◌^◌, ◌<◌, List, [], ◌∷◌, get_or, refl, lit<, w64, arith, proved, after, ftrue, fsep, flft, tables, fact, named, Val}
+use Rattle.gv_arena.proofs.Steps.{vptr, ‵, raw, ◌⊛◌, at_ret, ◌$◌, ◌∵◌, !, qed, done, move, keep, drop, split, join, fsplit, fjoin, feq_i, suffices, enter}
+use Rattle.gv_arena.proofs.Steps.{of_opd, bin, stop, fld, load, first, blocks, exec, returns, alloc_all, pass_all, free_all, look_at, get, through, sets, env}
+use Rattle.gv_arena.proofs.Steps.{usize, yes, uint_vals, uint_Tells, plain, nothing, heard, Stays, walk_of, says, stay_dropped, Goes-dropped, ends_at}
 use types.Run.{addr, look}
 use types.ByLocal.{sets_last}
 use denote.Builtin.{RefOf}

@@ -1,5 +1,10 @@
 -- A page is lent through the pointer, to be written.
-use Rattle.gv_arena.proofs.Steps.{◌≡◌, ℕ, ◌*◌, ◌^◌, ◌<◌, List, [], ◌∷◌, length, get_or, set, refl, sym, ap, ◌∙◌, lit<, w64, arith, proved, after, ftrue, fsep, flft, full_share, tables, fact, named, Val, vptr, ‵, raw, ◌⊛◌, at_ret, ◌$◌, ◌∵◌, !, qed, done, move, keep, use1, split, join, fsplit, fsplit3, fjoin, rewrite, suffices, frame, group, whole, sub, look_in, enter, of_opd, bin, stop, fld, load, first, blocks, exec, returns, alloc_all, pass_all, free_all, look_at, get, through, sets, env, usize, yes, no, shows, cell_at, part_at, uint_vals, uint_Tells, Ptr, block_ptr, MutRef, mut_vals, mut_Tells, plain, nothing, opens, peeks, heard, Stays, walk_of, says, stay_dropped, Goes-dropped, ends_at}
+use Rattle.gv_arena.proofs.Steps.{◌≡◌, ℕ, ◌*◌, ◌^◌, ◌<◌, List, [], ◌∷◌, length, get_or, refl, lit<, w64, arith, proved, after, ftrue, fsep, flft, full_share}
+use Rattle.gv_arena.proofs.Steps.{tables, fact, named, Val, vptr, ‵, raw, ◌⊛◌, at_ret, ◌$◌, ◌∵◌, !, qed, done, move, keep, use1, split, join, fsplit, fsplit3}
+use Rattle.gv_arena.proofs.Steps.{fjoin, rewrite, suffices, frame, group, whole, sub, look_in, enter, of_opd, bin, stop, fld, load, first, blocks, exec}
+use Rattle.gv_arena.proofs.Steps.{returns, alloc_all, pass_all, free_all, look_at, get, through, sets, env, usize, yes, no, cell_at, part_at, uint_vals}
+use Rattle.gv_arena.proofs.Steps.{uint_Tells, block_ptr, MutRef, mut_vals, mut_Tells, plain, nothing, opens, heard, Stays, walk_of, says, stay_dropped}
+use Rattle.gv_arena.proofs.Steps.{Goes-dropped, ends_at}
 use seplogic.Ra.Ura.{Ura}
 use base.Fml.{Fml, GName}
 use base.Logic.{ent, sep, id⊢}
@@ -21,7 +26,6 @@ use Rattle.gv_arena.specs.Ownership.{Page}
 use Rattle.gv_arena.specs.contracts.block.Block.page_mut as f
 use Rattle.gv_arena.proofs.block.Block.page_mut.Statement.{statement}
 use Rattle.gv_arena.proofs.block.Block.page_mut.Code as code
-use Rattle.gv_arena.specs.contracts.block.Block as block
 use Rattle.gv_arena.specs.contracts.block.Block.{the_row as R}
 use Rattle.gv_arena.specs.declared.block.Block.{Block}
 
