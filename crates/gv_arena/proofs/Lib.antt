@@ -1,14 +1,23 @@
-pub mod Added
+mod Added
+mod Arms
+mod BigLit
 pub mod Bytes
-pub mod Fields
-pub mod Filled
-pub mod FreeNumbers
-pub mod Joined
-pub mod Longer
-pub mod Marked
-pub mod Memory
-pub mod OnAny
+mod Fields
+mod FreeNumbers
+mod Handle
+mod HeapAnswer
+mod Items
+mod Joined
+mod Loan
+mod Longer
+pub mod Nothing
+mod OnAny
 pub mod Overwriting
-pub mod Padding
+mod Padding
 pub mod PageBytes
-pub mod Sharing
+mod Parts
+pub mod RowCopied
+mod Shared
+mod Shown
+mod Steps
+mod Zeros

@@ -1,5 +1,6 @@
 -- A list with a piece written over some of its items, one by one.
-use Rattle.std.proofs.Common.{◌≡◌, ℕ, ◌+◌, ◌-◌, ◌*◌, ◌/◌, ◌%◌, ◌^◌, ◌<◌, ◌≤◌, List, ◌++◌, length, take, drop, get_or, set, refl, sym, ap, ◌∙◌, subst, inl, inr, arith, length-append, length-drop, get_or-take, get_or-drop, get_or-set_same, get_or-set_other}
+use Rattle.std.proofs.Common.{◌≡◌, ℕ, ◌+◌, ◌-◌, ◌*◌, ◌/◌, ◌%◌, ◌^◌, ◌<◌, ◌≤◌, List, ◌++◌, length, take, drop, get_or, set, refl, sym, ap, ◌∙◌, subst, inl, inr}
+use Rattle.std.proofs.Common.{arith, length-append, length-drop, get_or-take, get_or-drop, get_or-set_same, get_or-set_other}
 use Rattle.std.proofs.lemmas.Bool.{cases_lt, cases_eq}
 use Rattle.std.proofs.lemmas.List.{get_or_append_left, get_or-append_right, get_or_past, length-take-le}
 use Rattle.std.proofs.lemmas.Nat.{le_bytes_8}
@@ -35,7 +36,7 @@ module _ (xs : List ℕ) (at : ℕ) (piece : List ℕ) (fits : at + length piece
   pub length-overwritten : length (overwritten xs at piece) ≡ length xs
   length-overwritten = omega (arith, front, length-append (take at xs) (piece ++ drop (at + length piece) xs), length-append piece (drop (at + length piece) xs), length-drop (at + length piece) xs)
 
-bytes_below : (n i : ℕ) → get_or (to_le_bytes w64 n) i 0 < 256
+pub bytes_below : (n i : ℕ) → get_or (to_le_bytes w64 n) i 0 < 256
 bytes_below n i = elim (cases_lt i 8) [
   | inl lt ↦ subst (λ (b : ℕ). b < 256) (sym (byte_in_list n i lt)) (byte_below i n)
   | inr le ↦ subst (λ (b : ℕ). b < 256) (sym (get_or_past (to_le_bytes w64 n) i 0 le)) (omega arith)

@@ -1,11 +1,13 @@
--- What the places end as, once a `&mut` into them has ended.
-use Rattle.std.specs.Prelude.{ℕ, List, slice_set, Option, Some}
-use Rattle.std.specs.Borrow.{Fml, RattleType, MutBor, Lends}
-use Rattle.gv_arena.specs.declared.places.Places.{Places}
-use Rattle.gv_arena.specs.contracts.places.Places.{the_row}
+-- What a block ends as, once a `&mut` to one of its pages has ended.
+use Rattle.std.specs.Prelude.{ℕ, List, slice_set}
+use Rattle.std.specs.Borrow.{Fml, MutBor, Lends}
+use Rattle.gv_arena.specs.Ownership.{Page}
+use Rattle.gv_arena.specs.contracts.block.Block.{the_row}
+use Rattle.gv_arena.specs.declared.block.Block.{Block}
 
-abbrev pub with_slots : {X : Type 0} → Places X → List (Option X) → Places X
-with_slots c cs = record { mark = c.mark; at = c.at; slots = cs }
+-- the block with these words in a page
+abbrev pub with_page : Block → ℕ → List ℕ → Block
+with_page b page words = record b { pages = slice_set b.pages page words }
 
-abbrev pub lends_slot : (R : RattleType) → MutBor (Places R.Denot) → ℕ → MutBor R.Denot → Fml
-lends_slot R c i r = Lends (the_row R) R c r (λ w. with_slots c.now (slice_set c.now.slots i (Some w)))
+abbrev pub lends_page : MutBor Block → ℕ → MutBor (List ℕ) → Fml
+lends_page b page r = Lends the_row Page b r (with_page b.now page)

@@ -1,7 +1,7 @@
 ghost use Rattle.std.specs.Prelude.{◌≡◌, ◌+◌, ◌<◌, ◌≤◌, Some, None, length, slice_index, slice_set, IfOk, IsOk, OnOk, OnErr, IsSome, IsTrue};
 ghost use Rattle.gv_types.specs.Memory.{zero_words};
 ghost use Rattle.gv_arena.specs.Contents.{nothing, words_at, words_of, is_live, live, with_page};
-ghost use Rattle.gv_arena.specs.Rows.{row_copied, IsRowCopied};
+ghost use Rattle.gv_arena.specs.Rows.{row_copied, IsPage, IsRowCopied};
 
 use crate::numbers::Numbers;
 use crate::store::Store;
@@ -89,7 +89,7 @@ impl Arena {
         requires within { index < 512 }
         ensures { result ≡ slice_index (words_of self.now page) index }
     {
-        self.store.page(page as usize)[index]
+        self.store.word(page as usize, index)
     }
 
     /// Sets a word of a page.
@@ -110,6 +110,8 @@ impl Arena {
         requires to_within { to_byte + count ≤ 4096 }
         ensures pages { self.new ≡ with_page self.old to (Some (row_copied (words_of self.old from) from_byte (words_of self.old to) to_byte count)) }
         ensures bytes { IsRowCopied (words_of self.old from) (words_of self.old to) (words_of self.new to) from_byte to_byte count }
+        ensures source { IsPage (words_of self.old from) }
+        ensures target { IsPage (words_of self.old to) }
     {
         self.store
             .copy_row(from as usize, from_byte, to as usize, to_byte, count);
@@ -129,9 +131,7 @@ impl Arena {
         requires { IsSome (words_at self.old page) }
         ensures { self.new ≡ record { pages = slice_set self.old.pages page None; spare = self.old.spare + 1 } }
     {
-        let page = page as usize;
-        self.store.empty(page);
-        self.numbers.take_back(page);
+        self.numbers.take_back(page as usize);
     }
 
     /// How many pages are live.
@@ -171,7 +171,7 @@ impl Arena {
         ensures spare { self.new.spare + 1 ≡ self.old.spare }
     {
         let page = self.numbers.give();
-        self.store.fill(page);
+        self.store.clear(page);
         page as u64
     }
 }

@@ -1,97 +1,73 @@
-//! Places for 64 pages in one allocation, which never moves.
-ghost use Rattle.std.specs.Prelude.{◌≡◌, ℕ, ◌+◌, ◌<◌, ◌≤◌, List, Option, Some, None, length, slice_index_or, slice_set, IfOk, IsSome};
+//! A chunk of 64 pages.
+ghost use Rattle.std.specs.Prelude.{◌≡◌, ℕ, ◌+◌, ◌<◌, ◌≤◌, List, [], length, slice_index, slice_index_or, slice_set, IfOk};
 ghost use Rattle.gv_types.specs.Memory.{zero_words};
-ghost use Rattle.gv_arena.specs.Contents.{words_or_none};
-ghost use Rattle.gv_arena.specs.Rows.{row_copied, IsRowCopied};
-ghost use Rattle.gv_arena.specs.Store.{no_pages};
+ghost use Rattle.gv_arena.specs.Rows.{row_copied, IsPage, IsRowCopied};
+ghost use Rattle.gv_arena.specs.Zeros.{zero_pages};
 
-use crate::places::{Deed, Places, Start, allocate, deallocate};
+use crate::block::{Block, PAGE_WORDS, Page};
 use crate::row::copy_bytes;
 use std::alloc::{AllocError, Global};
 use std::marker::Model;
 
-/// How many words a page has.
-pub(crate) const PAGE_WORDS: usize = 512;
+#[tactic(auto, unfolding(gv_types::specs::Memory::zero_words))]
+fn clear(words: &mut Page)
+    ensures { words.new ≡ zero_words }
+{
+    *words = [0; PAGE_WORDS];
+}
 
-/// How many pages a chunk has places for.
-pub(crate) const CHUNK_PAGES: usize = 64;
-
-/// The words of a page.
-pub(crate) type Page = [u64; PAGE_WORDS];
-
-/// A chunk is seen as the list of its places, each empty or with the words of a page.
+/// A chunk is seen as the list of its pages' words.
+#[derive(Drop)]
 pub(crate) struct Chunk {
-    start: Start<Page>,
-    places: Places<Page>,
-    deed: Deed<Page, Global>,
-    alloc: Global,
+    block: Block,
 }
 
 impl Model for Chunk {
-    ghost Value = { List (Option (List ℕ)) };
+    ghost Value = { List (List ℕ) };
 
-    ghost view = { λ c. c.places.slots };
+    ghost view = { λ c. c.block.pages };
 
-    ghost invariant = { λ c. (c.places.at ≡ c.start.ptr) × (c.deed.at ≡ c.start.ptr) × (c.deed.len ≡ 64) × (c.deed.alloc ≡ c.alloc) × (length c.places.slots ≡ 64) };
-}
-
-impl Drop for Chunk {
-    fn drop(self) {
-        let Chunk {
-            start,
-            places,
-            deed,
-            alloc,
-        } = self;
-        deallocate(&alloc, start, CHUNK_PAGES, places, deed);
-    }
+    ghost invariant = { λ c. length c.block.pages ≡ 64 };
 }
 
 impl Chunk {
+    /// Pages of zeros.
     pub(crate) fn new(alloc: Global) -> Result<Chunk, AllocError>
-        ensures { IfOk result (λ c. c ≡ no_pages 64) }
+        ensures { IfOk result (λ c. c ≡ zero_pages) }
     {
-        let (start, places, deed) = allocate(&alloc, CHUNK_PAGES)?;
-        Ok(Chunk {
-            start,
-            places,
-            deed,
-            alloc,
-        })
+        let block = Block::allocate(alloc)?;
+        Ok(Chunk { block })
     }
 
-    /// The words of a page.
     pub(crate) fn page(&self, slot: usize) -> &Page
-        requires { IsSome (slice_index_or self.now slot None) }
-        ensures { slice_index_or self.now slot None ≡ Some result.now }
+        requires { slot < 64 }
+        ensures { result.now ≡ slice_index_or self.now slot [] }
     {
-        self.places.get(self.start, slot)
+        self.block.page(slot)
     }
 
-    /// Fills an empty place with a page of zeros.
-    pub(crate) fn fill(&mut self, slot: usize)
-        requires within { slot < length self.old }
-        requires empty { slice_index_or self.old slot None ≡ None }
-        ensures { self.new ≡ slice_set self.old slot (Some zero_words) }
+    pub(crate) fn word(&self, slot: usize, index: usize) -> u64
+        requires slot { slot < 64 }
+        requires index { index < 512 }
+        ensures { result ≡ slice_index (slice_index_or self.now slot []) index }
     {
-        self.places.write(self.start, slot, [0; PAGE_WORDS]);
+        self.block.page(slot)[index]
     }
 
-    /// Empties the place of a page.
-    pub(crate) fn empty(&mut self, slot: usize)
-        requires { IsSome (slice_index_or self.old slot None) }
-        ensures { self.new ≡ slice_set self.old slot None }
+    /// Makes all words of a page zero.
+    pub(crate) fn clear(&mut self, slot: usize)
+        requires { slot < 64 }
+        ensures { self.new ≡ slice_set self.old slot zero_words }
     {
-        let _page = self.places.read(self.start, slot);
+        clear(self.block.page_mut(slot));
     }
 
     pub(crate) fn set_word(&mut self, slot: usize, index: usize, value: u64)
-        requires live { IsSome (slice_index_or self.old slot None) }
-        requires within { index < 512 }
-        ensures { self.new ≡ slice_set self.old slot (Some (slice_set (words_or_none (slice_index_or self.old slot None)) index value)) }
+        requires slot { slot < 64 }
+        requires index { index < 512 }
+        ensures { self.new ≡ slice_set self.old slot (slice_set (slice_index_or self.old slot []) index value) }
     {
-        let words = self.places.get_mut(self.start, slot);
-        words[index] = value;
+        self.block.page_mut(slot)[index] = value;
     }
 
     /// Copies a row of bytes of another page into a page.
@@ -103,13 +79,15 @@ impl Chunk {
         to_byte: usize,
         count: usize,
     )
-        requires live { IsSome (slice_index_or self.old slot None) }
+        requires slot { slot < 64 }
         requires from_within { from_byte + count ≤ 4096 }
         requires to_within { to_byte + count ≤ 4096 }
-        ensures places { self.new ≡ slice_set self.old slot (Some (row_copied source.now from_byte (words_or_none (slice_index_or self.old slot None)) to_byte count)) }
-        ensures copied { IsRowCopied source.now (words_or_none (slice_index_or self.old slot None)) (row_copied source.now from_byte (words_or_none (slice_index_or self.old slot None)) to_byte count) from_byte to_byte count }
+        ensures pages { self.new ≡ slice_set self.old slot (row_copied source.now from_byte (slice_index_or self.old slot []) to_byte count) }
+        ensures copied { IsRowCopied source.now (slice_index_or self.old slot []) (row_copied source.now from_byte (slice_index_or self.old slot []) to_byte count) from_byte to_byte count }
+        ensures source { IsPage source.now }
+        ensures target { IsPage (slice_index_or self.old slot []) }
     {
-        let target = self.places.get_mut(self.start, slot);
+        let target = self.block.page_mut(slot);
         copy_bytes(source, from_byte, target, to_byte, count);
     }
 }

@@ -1,9 +1,9 @@
 //! Rows of bytes, copied from one page to another, word by word.
 ghost use Rattle.std.specs.Prelude.{◌≡◌, ℕ, ◌+◌, ◌*◌, ◌/◌, ◌%◌, ◌^◌, ◌<◌, ◌≤◌, take, slice_index};
 ghost use Rattle.std.specs.Int.{w64, byte_at, to_le_bytes, from_le_bytes};
-ghost use Rattle.gv_arena.specs.Rows.{bytes_of, overwritten, row_copied, AreWords, IsCopied, IsRowCopied};
+ghost use Rattle.gv_arena.specs.Rows.{bytes_of, overwritten, row_copied, AreWords, IsPage, IsCopied, IsRowCopied};
 
-use crate::chunk::{PAGE_WORDS, Page};
+use crate::block::{PAGE_WORDS, Page};
 
 /// How many bytes a word has.
 const WORD_BYTES: usize = 8;
@@ -102,6 +102,8 @@ pub(crate) fn copy_bytes(
     requires to { to_byte + count ≤ 4096 }
     ensures row { target.new ≡ row_copied source.now from_byte target.old to_byte count }
     ensures copied { IsRowCopied source.now target.old target.new from_byte to_byte count }
+    ensures source { IsPage source.now }
+    ensures target { IsPage target.old }
 {
     let mut done = 0;
     while done < count {

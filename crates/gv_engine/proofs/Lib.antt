@@ -1,5 +1,10 @@
+pub mod ByteLemmas
 pub mod Contexts
+pub mod CopyLemmas
 pub mod FetchLemmas
-pub mod FreeList
-pub mod Pages
+pub mod PagesLemmas
+pub mod PutLemmas
 pub mod RowLemmas
+pub mod SpanLemmas
+pub mod States
+pub mod WalkLemmas

@@ -1,3 +1,7 @@
+pub mod Held
+pub mod Pages
+pub mod Rows
 pub mod Running
 pub mod Soft
+pub mod Walk
 pub mod Whole

@@ -2,10 +2,10 @@ ghost use Rattle.std.specs.Prelude.{◌≡◌, ◌+◌, ◌*◌, ◌<◌, length
 ghost use Rattle.gv_gpu.specs.Context.{state_at, state_dword, field_dwords, fields_stored, context_saved, context_of};
 ghost use Rattle.gv_ctx.specs.Saved.{fields_of, saved_of};
 ghost use Rattle.gv_engine.specs.Soft.{loaded_of};
+ghost use Rattle.gv_engine.specs.Whole.{whole};
 
 use crate::SoftGpu;
 use gv_ctx::{Descriptor, Saved};
-use gv_gpu::Gpu;
 use gv_types::GuestId;
 
 /// A context that is loaded on an engine. The root is the number of a host page.
@@ -33,15 +33,15 @@ fn state_at(descriptor: u64, n: u64) -> u64
 impl SoftGpu {
     fn state_dword(&self, descriptor: u64, n: u64) -> u32
         requires { n < 1024 }
-        ensures { result ≡ state_dword (⟦<SoftGpu as Gpu>⟧.state self.now) descriptor n }
+        ensures { result ≡ state_dword (whole self.now) descriptor n }
     {
-        self.operand(0, true, state_at(descriptor, n))
+        self.global_dword(state_at(descriptor, n))
     }
 
     /// The place that an image holds.
     #[tactic(auto, unfolding(gv_gpu::specs::Context::context_of))]
     fn place_of(&self, descriptor: u64) -> Saved
-        ensures { result ≡ (context_of (⟦<SoftGpu as Gpu>⟧.state self.now) 0 descriptor).place }
+        ensures { result ≡ (context_of (whole self.now) 0 descriptor).place }
     {
         Saved::of([
             self.state_dword(descriptor, 0x05),
@@ -57,7 +57,7 @@ impl SoftGpu {
     /// The context that an image holds.
     #[tactic(auto, unfolding(gv_gpu::specs::Context::context_of))]
     pub(crate) fn context_of(&self, owner: GuestId, descriptor: u64) -> Context
-        ensures { loaded_of result ≡ context_of (⟦<SoftGpu as Gpu>⟧.state self.now) owner.0 descriptor }
+        ensures { loaded_of result ≡ context_of (whole self.now) owner.0 descriptor }
     {
         let high = u64::from(self.state_dword(descriptor, 0x31));
         let low = u64::from(self.state_dword(descriptor, 0x33));
@@ -73,18 +73,18 @@ impl SoftGpu {
 
     /// Writes the fields of a place into an image.
     pub(crate) fn store_fields(&mut self, descriptor: u64, fields: [u32; 7])
-        ensures { ⟦<SoftGpu as Gpu>⟧.state self.new ≡ fields_stored (⟦<SoftGpu as Gpu>⟧.state self.old) descriptor fields 7 }
+        ensures { whole self.new ≡ fields_stored (whole self.old) descriptor fields 7 }
     {
         for n in 0..7 {
             let at = state_at(descriptor, FIELD_DWORDS[n]);
-            self.store_operand(0, true, at, fields[n]);
+            self.store_global_dword(at, fields[n]);
         }
     }
 
     /// Saves the place of a loaded context into its image.
     pub(crate) fn save(&mut self, engine: u8)
         requires { engine < 4 }
-        ensures { ⟦<SoftGpu as Gpu>⟧.state self.new ≡ context_saved (⟦<SoftGpu as Gpu>⟧.state self.old) ((⟦<SoftGpu as Gpu>⟧.state self.old).loaded engine) }
+        ensures { whole self.new ≡ context_saved (whole self.old) ((whole self.old).loaded engine) }
     {
         if let Some(context) = self.context(engine) {
             self.store_fields(context.descriptor, context.place.fields());

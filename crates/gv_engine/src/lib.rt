@@ -5,12 +5,14 @@
 mod context;
 mod entry;
 mod memory;
+mod pages;
 mod place;
 mod rows;
 mod soft;
 mod space;
 mod step;
 mod strays;
+mod walk;
 
 pub use entry::Entry;
 pub use soft::SoftGpu;

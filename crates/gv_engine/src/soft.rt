@@ -1,33 +1,15 @@
 ghost use Rattle.std.specs.Prelude.{◌≡◌, ℕ, ◌+◌, ◌-◌, ◌*◌, ◌<◌, ◌≤◌, ◌++◌, ◌∷◌, length, slice_index, vec_capacity, IfOk, OnOk, OnErr, IsSome, None, [], is_some, map, if◌then◌else◌};
 ghost use Rattle.gv_gpu.specs.Device.{IsEmpty, added, counted, with_word, with_loaded};
-ghost use Rattle.gv_engine.specs.Soft.{IsFreeList, zero_registers};
-ghost use Rattle.gv_types.specs.Memory.{zero_words};
+ghost use Rattle.gv_engine.specs.Held.{held};
+ghost use Rattle.gv_engine.specs.Soft.{zero_registers};
 
 use crate::Entry;
 use crate::context::Context;
+use crate::pages::Pages;
 use crate::place::has_ended;
 use gv_gpu::{Gpu, GpuFailed, Step};
 use gv_types::{EngineId, GuestId, Label, OutOfMemory};
 use std::alloc::Global;
-
-#[derive(Drop)]
-struct Page {
-    label: Label,
-    words: [u64; 512],
-}
-
-impl Page {
-    #[tactic(auto, unfolding(gv_types::specs::Memory::zero_words))]
-    fn new(label: Label) -> Page
-        ensures label { result.label ≡ label }
-        ensures words { result.words ≡ zero_words }
-    {
-        Page {
-            label,
-            words: [0; 512],
-        }
-    }
-}
 
 /// How many entries the global table has.
 const ENTRIES: usize = 1_048_576;
@@ -63,10 +45,7 @@ fn register(engine: EngineId, n: u8) -> usize
 /// A device in memory. It never fails: its count of faults is 0.
 #[derive(Drop)]
 pub struct SoftGpu {
-    // by page number
-    pages: Vec<Option<Page>>,
-    // the numbers that can be given again, with room for all
-    free: Vec<u64>,
+    pub(crate) pages: Pages,
     // the global table, whose memory is taken with the first page
     entries: Vec<u64>,
     // the general registers, sixteen of each engine
@@ -78,24 +57,23 @@ pub struct SoftGpu {
     spare: u64,
     strays: u64,
     pokes: u64,
-    ghost few: { length pages.items ≤ 131072 },
-    ghost room: { length pages.items ≤ vec_capacity free },
-    ghost listed: { IsFreeList pages.items free.items },
+    // where a row of a blit is kept between reading and writing
+    pub(crate) row: [u8; 16384],
     ghost table: { length entries.items ≤ 1048576 },
-    ghost whole_table: { 0 < length pages.items → length entries.items ≡ 1048576 },
+    ghost whole_table: { (page : ℕ) → IsSome ((held pages).label page) → length entries.items ≡ 1048576 },
     ghost journal_room: { length journal.items + spare ≤ vec_capacity journal },
 }
 
 impl SoftGpu {
     ghost use Rattle.gv_engine.specs.Soft.{loaded_by, ran_of};
+    ghost use Rattle.gv_engine.specs.Whole.{whole};
 
     /// An empty device.
     pub fn new(alloc: Global) -> SoftGpu
-        ensures { IsEmpty (⟦<SoftGpu as Gpu>⟧.state result) }
+        ensures { IsEmpty (whole result) }
     {
         SoftGpu {
-            pages: Vec::new(alloc),
-            free: Vec::new(alloc),
+            pages: Pages::new(alloc),
             entries: Vec::new(alloc),
             general: zero_registers(),
             contexts: [None; 4],
@@ -103,84 +81,81 @@ impl SoftGpu {
             spare: 0,
             strays: 0,
             pokes: 0,
+            row: [0; 16384],
         }
     }
 
     /// The commands that ran, in order.
     pub fn journal(&self) -> &[Entry]
-        ensures { map ran_of result.now ≡ (⟦<SoftGpu as Gpu>⟧.state self.now).journal }
+        ensures { map ran_of result.now ≡ (whole self.now).journal }
     {
         self.journal.as_slice()
     }
 
     /// How many words were poked. It stays at 2^64 - 1 once it is there.
     pub fn pokes(&self) -> u64
-        ensures { result ≡ (⟦<SoftGpu as Gpu>⟧.state self.now).pokes }
+        ensures { result ≡ (whole self.now).pokes }
     {
         self.pokes
     }
 
     pub(crate) fn label(&self, page: u64) -> Option<Label>
-        ensures { result ≡ (⟦<SoftGpu as Gpu>⟧.state self.now).label page }
+        ensures { result ≡ (whole self.now).label page }
     {
-        match self.pages.get(page as usize) {
-            Some(Some(page)) => Some(page.label),
-            _ => None,
-        }
+        self.pages.label(page)
     }
 
     // A word of any page. One that isn't live has zeros.
     pub(crate) fn word_or_zero(&self, page: u64, index: usize) -> u64
         requires { index < 512 }
-        ensures { result ≡ slice_index ((⟦<SoftGpu as Gpu>⟧.state self.now).words page) index }
+        ensures { result ≡ slice_index ((whole self.now).words page) index }
     {
-        match self.pages.get(page as usize) {
-            Some(Some(page)) => page.words[index],
-            _ => 0,
+        if self.pages.label(page).is_some() {
+            self.pages.word(page, index)
+        } else {
+            0
         }
     }
 
     // Writes a word, which is no poke.
     pub(crate) fn set_word(&mut self, page: u64, index: usize, value: u64)
-        requires live { IsSome ((⟦<SoftGpu as Gpu>⟧.state self.old).label page) }
+        requires live { IsSome ((whole self.old).label page) }
         requires within { index < 512 }
-        ensures { ⟦<SoftGpu as Gpu>⟧.state self.new ≡ with_word (⟦<SoftGpu as Gpu>⟧.state self.old) page index value }
+        ensures { whole self.new ≡ with_word (whole self.old) page index value }
     {
-        if let Some(page) = &mut self.pages[page as usize] {
-            page.words[index] = value;
-        }
+        self.pages.set_word(page, index, value);
     }
 
     fn count_poke(&mut self)
-        ensures { let old = ⟦<SoftGpu as Gpu>⟧.state self.old in ⟦<SoftGpu as Gpu>⟧.state self.new ≡ record old { pokes = counted old.pokes } }
+        ensures { let old = whole self.old in whole self.new ≡ record old { pokes = counted old.pokes } }
     {
         self.pokes = self.pokes.saturating_add(1);
     }
 
     // An entry of the global table.
     pub(crate) fn entry(&self, index: u64) -> u64
-        ensures { result ≡ (⟦<SoftGpu as Gpu>⟧.state self.now).global index }
+        ensures { result ≡ (whole self.now).global index }
     {
         self.entries.get(index as usize).copied().unwrap_or(0)
     }
 
     pub(crate) fn context(&self, engine: u8) -> Option<Context>
         requires { engine < 4 }
-        ensures { loaded_by result ≡ (⟦<SoftGpu as Gpu>⟧.state self.now).loaded engine }
+        ensures { loaded_by result ≡ (whole self.now).loaded engine }
     {
         self.contexts[engine as usize]
     }
 
     pub(crate) fn set_context(&mut self, engine: u8, context: Option<Context>)
         requires { engine < 4 }
-        ensures { ⟦<SoftGpu as Gpu>⟧.state self.new ≡ with_loaded (⟦<SoftGpu as Gpu>⟧.state self.old) engine (loaded_by context) }
+        ensures { whole self.new ≡ with_loaded (whole self.old) engine (loaded_by context) }
     {
         self.contexts[engine as usize] = context;
     }
 
     // Counts one stray, if there was one.
     pub(crate) fn settle(&mut self, strayed: bool)
-        ensures { let old = ⟦<SoftGpu as Gpu>⟧.state self.old in ⟦<SoftGpu as Gpu>⟧.state self.new ≡ record old { strays = if strayed then counted old.strays else old.strays } }
+        ensures { let old = whole self.old in whole self.new ≡ record old { strays = if strayed then counted old.strays else old.strays } }
     {
         if strayed {
             self.strays = self.strays.saturating_add(1);
@@ -189,60 +164,31 @@ impl SoftGpu {
 
     // Adds a command to the journal, which has room for it.
     pub(crate) fn log(&mut self, entry: Entry)
-        requires { 1 ≤ (⟦<SoftGpu as Gpu>⟧.state self.old).spare }
-        ensures { let old = ⟦<SoftGpu as Gpu>⟧.state self.old in ⟦<SoftGpu as Gpu>⟧.state self.new ≡ record old { journal = old.journal ++ ran_of entry ∷ []; spare = old.spare - 1 } }
+        requires { 1 ≤ (whole self.old).spare }
+        ensures { let old = whole self.old in whole self.new ≡ record old { journal = old.journal ++ ran_of entry ∷ []; spare = old.spare - 1 } }
     {
         self.spare -= 1;
         self.journal.push(entry).unwrap();
     }
-
-    // Gives the page a number that can be given again, or the next. The global table is there.
-    fn place(&mut self, page: Page) -> Result<u64, OutOfMemory>
-        requires few { (⟦<SoftGpu as Gpu>⟧.state self.old).live < 131072 }
-        requires table { length self.old.entries.items ≡ 1048576 }
-        requires zero { page.words ≡ zero_words }
-        ensures fresh { IfOk result (λ number. (⟦<SoftGpu as Gpu>⟧.state self.old).label number ≡ None) }
-        ensures empty { IfOk result (λ number. (⟦<SoftGpu as Gpu>⟧.state self.old).words number ≡ []) }
-        ensures below { IfOk result (λ number. number < 131072) }
-        ensures live { IfOk result (λ number. IsSome ((⟦<SoftGpu as Gpu>⟧.state self.new).label number)) }
-        ensures ok { IfOk result (λ number. ⟦<SoftGpu as Gpu>⟧.state self.new ≡ added (⟦<SoftGpu as Gpu>⟧.state self.old) number page.label) }
-        ensures err { OnErr result (⟦<SoftGpu as Gpu>⟧.state self.new ≡ ⟦<SoftGpu as Gpu>⟧.state self.old) }
-    {
-        match self.free.pop() {
-            Some(number) => {
-                self.pages[number as usize] = Some(page);
-                Ok(number)
-            }
-            None => {
-                let number = self.pages.len();
-                self.free.reserve(number + 1)?;
-                self.pages.push(Some(page))?;
-                Ok(number as u64)
-            }
-        }
-    }
 }
 
 impl Gpu for SoftGpu {
+    ghost use Rattle.gv_engine.specs.Held.{held};
     ghost use Rattle.gv_engine.specs.Soft.{state_of};
 
-    ghost state = { λ s. state_of s.pages.items s.entries.items s.general s.contexts s.journal.items s.strays s.pokes s.spare };
+    ghost state = { λ s. state_of (held s.pages) s.entries.items s.general s.contexts s.journal.items s.strays s.pokes s.spare };
 
     fn add_page(&mut self, label: Label) -> Result<u64, OutOfMemory> {
         lengthen(&mut self.entries, ENTRIES)?;
-        self.place(Page::new(label))
+        self.pages.add(label)
     }
 
     fn release(&mut self, page: u64) {
-        self.pages[page as usize] = None;
-        self.free.push(page).unwrap();
+        self.pages.release(page);
     }
 
     fn word(&self, page: u64, index: usize) -> u64 {
-        match &self.pages[page as usize] {
-            Some(page) => page.words[index],
-            None => 0,
-        }
+        self.pages.word(page, index)
     }
 
     fn poke(&mut self, page: u64, index: usize, value: u64) {

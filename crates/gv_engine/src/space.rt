@@ -24,10 +24,11 @@ pub(crate) struct Running<'a> {
 impl SpaceMeaning for Running<'_> {
     ghost use Rattle.gv_gpu.specs.Step.{Stepping, operations};
     ghost use Rattle.gv_engine.specs.Running.{stepping};
+    ghost use Rattle.gv_engine.specs.Whole.{whole};
 
     ghost State = { Stepping };
 
-    ghost state = { λ s. stepping (⟦<SoftGpu as Gpu>⟧.state s.gpu.now) s.engine.0 s.context s.strayed };
+    ghost state = { λ s. stepping (whole s.gpu.now) s.engine.0 s.context s.strayed };
 
     ghost loans = { λ s. s.gpu.ghost_name ∷ [] };
 
@@ -36,38 +37,30 @@ impl SpaceMeaning for Running<'_> {
 
 impl Space for Running<'_> {
     fn load(&mut self, global: bool, at: u64) -> u32 {
-        self.strayed = either(
-            self.strayed,
-            self.gpu.read_strays(&self.context, global, at),
-        );
-        self.gpu.operand(self.context.root, global, at)
+        let (value, stray) = self.gpu.load(&self.context, global, at);
+        self.strayed = either(self.strayed, stray);
+        value
     }
 
     fn store(&mut self, global: bool, at: u64, value: u32) {
-        self.strayed = either(
-            self.strayed,
-            self.gpu.write_strays(&self.context, global, at),
-        );
-        self.gpu.store_operand(self.context.root, global, at, value);
+        let stray = self.gpu.store(&self.context, global, at, value);
+        self.strayed = either(self.strayed, stray);
     }
 
     fn copy_row(&mut self, to: u64, from: u64, bytes: u32) {
-        let count = bytes as usize;
-        let mut row = [0; 16384];
-        let strayed = self
-            .gpu
-            .read_row(&self.context, from % ADDRESSES, &mut row, count);
-        let strayed = either(self.strayed, strayed);
-        self.strayed = self
-            .gpu
-            .write_row(&self.context, to % ADDRESSES, &row, count, strayed);
+        self.strayed = self.gpu.copy_row(
+            &self.context,
+            to % ADDRESSES,
+            from % ADDRESSES,
+            bytes as usize,
+            self.strayed,
+        );
     }
 
     fn fill_row(&mut self, to: u64, bytes: u32, colour: u32, depth: u8) {
-        let to = to % ADDRESSES;
         self.strayed = self.gpu.fill_row(
             &self.context,
-            to,
+            to % ADDRESSES,
             bytes as usize,
             colour,
             depth,

@@ -4,6 +4,7 @@ ghost use Rattle.gv_exec.specs.Done.{raise_of};
 ghost use Rattle.gv_gpu.specs.Step.{operations, is_privileged, dwords_from, dwords_stray, fetched, ran_after, command_step, front_step};
 ghost use Rattle.gv_engine.specs.Running.{stepping};
 ghost use Rattle.gv_engine.specs.Soft.{loaded_of};
+ghost use Rattle.gv_engine.specs.Whole.{whole};
 
 use crate::context::Context;
 use crate::place::{front_at, is_privileged, moved, stands_of};
@@ -12,7 +13,7 @@ use crate::strays::either;
 use crate::{Entry, SoftGpu};
 use gv_cmd::{Command, allowed, decode, length};
 use gv_exec::{Done, run};
-use gv_gpu::{Gpu, Step};
+use gv_gpu::Step;
 use gv_types::EngineId;
 
 /// The front command's dwords as they were read, and whether a read strayed.
@@ -29,15 +30,16 @@ impl SoftGpu {
         requires few { count ≤ 65 }
         requires small { at < 2 ^ 48 }
         ensures count { result.count ≡ count }
-        ensures words { take count result.words ≡ dwords_from (⟦<SoftGpu as Gpu>⟧.state self.now) context.now.root global at count }
-        ensures strayed { result.strayed ≡ dwords_stray (⟦<SoftGpu as Gpu>⟧.state self.now) (loaded_of context.now) global at count }
+        ensures words { take count result.words ≡ dwords_from (whole self.now) context.now.root global at count }
+        ensures strayed { result.strayed ≡ dwords_stray (whole self.now) (loaded_of context.now) global at count }
     {
         let mut words = [0; 65];
         let mut strayed = false;
         for n in 0..count {
             let here = at + 4 * n as u64;
-            words[n] = self.dword(context.root, global, here);
-            strayed = either(strayed, self.dword_strays(context, global, here));
+            let (word, stray) = self.dword(context, global, here);
+            words[n] = word;
+            strayed = either(strayed, stray);
         }
         Fetched {
             words,
@@ -51,12 +53,12 @@ impl SoftGpu {
     #[tactic(auto, unfolding(gv_gpu::specs::Step::fetched))]
     fn fetch(&self, context: &Context) -> Fetched
         ensures few { result.count ≤ 65 }
-        ensures words { take result.count result.words ≡ (fetched (⟦<SoftGpu as Gpu>⟧.state self.now) (loaded_of context.now)).words }
-        ensures strayed { result.strayed ≡ (fetched (⟦<SoftGpu as Gpu>⟧.state self.now) (loaded_of context.now)).strayed }
+        ensures words { take result.count result.words ≡ (fetched (whole self.now) (loaded_of context.now)).words }
+        ensures strayed { result.strayed ≡ (fetched (whole self.now) (loaded_of context.now)).strayed }
     {
         let global = is_privileged(&context.place);
         let at = front_at(context);
-        let header = self.dword(context.root, global, at);
+        let (header, _) = self.dword(context, global, at);
         let count = length(header).unwrap_or(1);
         self.fetch_dwords(context, global, at, count)
     }
@@ -72,9 +74,9 @@ impl SoftGpu {
         strayed: bool,
     ) -> (Done, bool)
         requires { engine.0 < 4 }
-        ensures device { ⟦<SoftGpu as Gpu>⟧.state self.new ≡ (effect operations command.now engine.0 privileged (stepping (⟦<SoftGpu as Gpu>⟧.state self.old) engine.0 context.now strayed)).after.device }
-        ensures strayed { result.1 ≡ (effect operations command.now engine.0 privileged (stepping (⟦<SoftGpu as Gpu>⟧.state self.old) engine.0 context.now strayed)).after.strayed }
-        ensures raise { raise_of result.0 ≡ (effect operations command.now engine.0 privileged (stepping (⟦<SoftGpu as Gpu>⟧.state self.old) engine.0 context.now strayed)).raise }
+        ensures device { whole self.new ≡ (effect operations command.now engine.0 privileged (stepping (whole self.old) engine.0 context.now strayed)).after.device }
+        ensures strayed { result.1 ≡ (effect operations command.now engine.0 privileged (stepping (whole self.old) engine.0 context.now strayed)).after.strayed }
+        ensures raise { raise_of result.0 ≡ (effect operations command.now engine.0 privileged (stepping (whole self.old) engine.0 context.now strayed)).raise }
     {
         let mut space = Running {
             gpu: self,
@@ -102,10 +104,10 @@ impl SoftGpu {
         strayed: bool,
     ) -> (Done, bool)
         requires { engine.0 < 4 }
-        ensures device { ⟦<SoftGpu as Gpu>⟧.state self.new ≡ (effect operations command.now engine.0 privileged (stepping (⟦<SoftGpu as Gpu>⟧.state self.old) engine.0 context.now strayed)).after.device }
-        ensures strayed { result.1 ≡ (effect operations command.now engine.0 privileged (stepping (⟦<SoftGpu as Gpu>⟧.state self.old) engine.0 context.now strayed)).after.strayed }
-        ensures raise { raise_of result.0 ≡ (effect operations command.now engine.0 privileged (stepping (⟦<SoftGpu as Gpu>⟧.state self.old) engine.0 context.now strayed)).raise }
-        ensures spare { (⟦<SoftGpu as Gpu>⟧.state self.new).spare ≡ (⟦<SoftGpu as Gpu>⟧.state self.old).spare }
+        ensures device { whole self.new ≡ (effect operations command.now engine.0 privileged (stepping (whole self.old) engine.0 context.now strayed)).after.device }
+        ensures strayed { result.1 ≡ (effect operations command.now engine.0 privileged (stepping (whole self.old) engine.0 context.now strayed)).after.strayed }
+        ensures raise { raise_of result.0 ≡ (effect operations command.now engine.0 privileged (stepping (whole self.old) engine.0 context.now strayed)).raise }
+        ensures spare { (whole self.new).spare ≡ (whole self.old).spare }
     {
         self.run_over(engine, context, command, privileged, strayed)
     }
@@ -113,9 +115,9 @@ impl SoftGpu {
     /// A command of so many dwords ran: the place moves past it, and the journal gets it.
     fn finish(&mut self, engine: EngineId, context: &Context, command: &Command, dwords: usize)
         requires engine { engine.0 < 4 }
-        requires room { 1 ≤ (⟦<SoftGpu as Gpu>⟧.state self.old).spare }
+        requires room { 1 ≤ (whole self.old).spare }
         requires few { dwords ≤ 65 }
-        ensures { ⟦<SoftGpu as Gpu>⟧.state self.new ≡ ran_after (⟦<SoftGpu as Gpu>⟧.state self.old) engine.0 (loaded_of context.now) command.now dwords }
+        ensures { whole self.new ≡ ran_after (whole self.old) engine.0 (loaded_of context.now) command.now dwords }
     {
         let next = Context {
             descriptor: context.descriptor,
@@ -143,10 +145,10 @@ impl SoftGpu {
         strayed: bool,
     ) -> Step
         requires engine { engine.0 < 4 }
-        requires room { 1 ≤ (⟦<SoftGpu as Gpu>⟧.state self.old).spare }
+        requires room { 1 ≤ (whole self.old).spare }
         requires few { dwords ≤ 65 }
-        ensures after { ⟦<SoftGpu as Gpu>⟧.state self.new ≡ (command_step (stepping (⟦<SoftGpu as Gpu>⟧.state self.old) engine.0 context.now strayed) (Ok (command.now, dwords))).after }
-        ensures answer { result ≡ (command_step (stepping (⟦<SoftGpu as Gpu>⟧.state self.old) engine.0 context.now strayed) (Ok (command.now, dwords))).answer }
+        ensures after { whole self.new ≡ (command_step (stepping (whole self.old) engine.0 context.now strayed) (Ok (command.now, dwords))).after }
+        ensures answer { result ≡ (command_step (stepping (whole self.old) engine.0 context.now strayed) (Ok (command.now, dwords))).answer }
     {
         if !allowed(command, stands_of(&context.place), engine.0) {
             self.settle(strayed);
@@ -175,9 +177,9 @@ impl SoftGpu {
     /// The step of a context that has a command left.
     pub(crate) fn step_front(&mut self, engine: EngineId, context: &Context) -> Step
         requires engine { engine.0 < 4 }
-        requires room { 1 ≤ (⟦<SoftGpu as Gpu>⟧.state self.old).spare }
-        ensures after { ⟦<SoftGpu as Gpu>⟧.state self.new ≡ (front_step (⟦<SoftGpu as Gpu>⟧.state self.old) engine.0 (loaded_of context.now)).after }
-        ensures answer { result ≡ (front_step (⟦<SoftGpu as Gpu>⟧.state self.old) engine.0 (loaded_of context.now)).answer }
+        requires room { 1 ≤ (whole self.old).spare }
+        ensures after { whole self.new ≡ (front_step (whole self.old) engine.0 (loaded_of context.now)).after }
+        ensures answer { result ≡ (front_step (whole self.old) engine.0 (loaded_of context.now)).answer }
     {
         let fetched = self.fetch(context);
         match decode(&fetched.words[..fetched.count]) {

@@ -1,11 +1,14 @@
-ghost use Rattle.std.specs.Prelude.{◌≡◌, ◌+◌, ◌<◌, ◌^◌, ◌||◌};
-ghost use Rattle.gv_gpu.specs.Physical.{page_strays, is_page, is_own_image, walk_strays, read_strays, dword_strays, written_strays, write_strays};
+//! Which accesses of a step stray. No access is made here.
+ghost use Rattle.std.specs.Prelude.{◌≡◌, ◌||◌, ◌<◌, ◌^◌, IfSome, IsSome};
+ghost use Rattle.gv_gpu.specs.Physical.{image_of, page_strays, is_own_image, read_page, write_page, read_strays, written_strays, write_strays};
 ghost use Rattle.gv_engine.specs.Soft.{loaded_of};
+ghost use Rattle.gv_engine.specs.Walk.{walk_of, writable_page, tables_stray};
+ghost use Rattle.gv_engine.specs.Whole.{whole};
 
 use crate::SoftGpu;
 use crate::context::Context;
+use crate::walk::{Walk, is_page};
 use gv_ctx::Descriptor;
-use gv_gpu::Gpu;
 use gv_types::GuestId;
 
 /// Whether an access strayed, before or now.
@@ -15,19 +18,24 @@ pub(crate) fn either(before: bool, now: bool) -> bool
     before || now
 }
 
-fn is_page(page: Option<u64>, number: u64) -> bool
-    ensures { result ≡ is_page page number }
-{
-    match page {
-        None => false,
-        Some(page) => page == number,
-    }
+/// The page that an access reaches, and whether it strays.
+#[derive(Drop)]
+pub(crate) struct Reached {
+    pub page: Option<u64>,
+    pub strayed: bool,
 }
 
-// Which accesses of a step stray. No access is made here.
+/// Where a context's image begins, as a global address.
+fn image_of(descriptor: u64) -> u64
+    ensures value { result ≡ image_of descriptor }
+    ensures small { result < 2 ^ 32 }
+{
+    u64::from(Descriptor::of(descriptor).page) * 4096
+}
+
 impl SoftGpu {
     fn page_strays(&self, owner: GuestId, page: Option<u64>) -> bool
-        ensures { result ≡ page_strays (⟦<SoftGpu as Gpu>⟧.state self.now) owner.0 page }
+        ensures { result ≡ page_strays (whole self.now) owner.0 page }
     {
         let Some(page) = page else {
             return false;
@@ -39,51 +47,28 @@ impl SoftGpu {
     }
 
     /// Whether a walk reads a table of another guest's.
-    #[tactic(auto, unfolding(gv_gpu::specs::Physical::walk_strays))]
-    fn walk_strays(&self, context: &Context, global: bool, at: u64) -> bool
-        ensures { result ≡ walk_strays (⟦<SoftGpu as Gpu>⟧.state self.now) (loaded_of context.now) global at }
+    fn tables_stray(&self, owner: GuestId, walk: &Walk) -> bool
+        ensures { result ≡ tables_stray (whole self.now) owner.0 walk.now }
     {
-        let root = context.root;
-        !global
-            && (self.page_strays(context.owner, self.live_page(root))
-                || self.page_strays(context.owner, self.third_table(root, at))
-                || self.page_strays(context.owner, self.second_table(root, at))
-                || self.page_strays(context.owner, self.first_table(root, at)))
-    }
-
-    #[tactic(auto, unfolding(gv_gpu::specs::Physical::read_strays))]
-    pub(crate) fn read_strays(&self, context: &Context, global: bool, at: u64) -> bool
-        ensures { result ≡ read_strays (⟦<SoftGpu as Gpu>⟧.state self.now) (loaded_of context.now) global at }
-    {
-        self.walk_strays(context, global, at)
-            || self.page_strays(context.owner, self.read_page(context.root, global, at))
-    }
-
-    /// The same of a dword at any address.
-    #[tactic(auto, unfolding(gv_gpu::specs::Physical::dword_strays))]
-    pub(crate) fn dword_strays(&self, context: &Context, global: bool, at: u64) -> bool
-        requires { at + 4 < 2 ^ 64 }
-        ensures { result ≡ dword_strays (⟦<SoftGpu as Gpu>⟧.state self.now) (loaded_of context.now) global at }
-    {
-        self.read_strays(context, global, at)
-            || (at % 4 != 0
-                && (self.read_strays(context, global, at + 1)
-                    || self.read_strays(context, global, at + 2)
-                    || self.read_strays(context, global, at + 3)))
+        self.page_strays(owner, walk.root)
+            || self.page_strays(owner, walk.third)
+            || self.page_strays(owner, walk.second)
+            || self.page_strays(owner, walk.first)
     }
 
     /// Whether a page is one of the two of the context's own image.
     #[tactic(auto, unfolding(gv_gpu::specs::Physical::is_own_image))]
     fn is_own_image(&self, context: &Context, page: u64) -> bool
-        ensures { result ≡ is_own_image (⟦<SoftGpu as Gpu>⟧.state self.now) (loaded_of context.now) page }
+        ensures { result ≡ is_own_image (whole self.now) (loaded_of context.now) page }
     {
-        let image = u64::from(Descriptor::of(context.descriptor).page) * 4096;
-        is_page(self.read_page(context.root, true, image), page)
-            || is_page(self.read_page(context.root, true, image + 4096), page)
+        let image = image_of(context.descriptor);
+        let first = self.read_page(image);
+        let second = self.read_page(image + 4096);
+        either(is_page(first, page), is_page(second, page))
     }
 
     fn written_strays(&self, context: &Context, page: Option<u64>) -> bool
-        ensures { result ≡ written_strays (⟦<SoftGpu as Gpu>⟧.state self.now) (loaded_of context.now) page }
+        ensures { result ≡ written_strays (whole self.now) (loaded_of context.now) page }
     {
         let Some(page) = page else {
             return false;
@@ -97,11 +82,38 @@ impl SoftGpu {
         }
     }
 
-    #[tactic(auto, unfolding(gv_gpu::specs::Physical::write_strays))]
-    pub(crate) fn write_strays(&self, context: &Context, global: bool, at: u64) -> bool
-        ensures { result ≡ write_strays (⟦<SoftGpu as Gpu>⟧.state self.now) (loaded_of context.now) global at }
+    /// What a context reads at an address.
+    pub(crate) fn reading(&self, context: &Context, global: bool, at: u64) -> Reached
+        ensures page { result.page ≡ read_page (whole self.now) context.now.root global at }
+        ensures live { IfSome result.page (λ page. IsSome ((whole self.now).label page)) }
+        ensures strayed { result.strayed ≡ read_strays (whole self.now) (loaded_of context.now) global at }
     {
-        self.walk_strays(context, global, at)
-            || self.written_strays(context, self.write_page(context.root, global, at))
+        let walk = self.walk(context.root, global, at);
+        let page = self.page_of(walk.entry);
+        let tables = self.tables_stray(context.owner, &walk);
+        let strayed = either(tables, self.page_strays(context.owner, page));
+        Reached { page, strayed }
+    }
+
+    /// What a context writes at an address, by its walk.
+    pub(crate) fn writing_by(&self, context: &Context, walk: &Walk) -> Reached
+        ensures page { result.page ≡ writable_page (whole self.now) walk.now.entry }
+        ensures live { IfSome result.page (λ page. IsSome ((whole self.now).label page)) }
+        ensures strayed { result.strayed ≡ (tables_stray (whole self.now) context.now.owner.0 walk.now || written_strays (whole self.now) (loaded_of context.now) (writable_page (whole self.now) walk.now.entry)) }
+    {
+        let page = self.writable_page(walk.entry);
+        let tables = self.tables_stray(context.owner, walk);
+        let strayed = either(tables, self.written_strays(context, page));
+        Reached { page, strayed }
+    }
+
+    /// What a context writes at an address.
+    pub(crate) fn writing(&self, context: &Context, global: bool, at: u64) -> Reached
+        ensures page { result.page ≡ write_page (whole self.now) context.now.root global at }
+        ensures live { IfSome result.page (λ page. IsSome ((whole self.now).label page)) }
+        ensures strayed { result.strayed ≡ write_strays (whole self.now) (loaded_of context.now) global at }
+    {
+        let walk = self.walk(context.root, global, at);
+        self.writing_by(context, &walk)
     }
 }

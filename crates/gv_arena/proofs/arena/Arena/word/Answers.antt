@@ -1,13 +1,9 @@
-use Rattle.std.proofs.Common.{◌∙◌, get_or, sym, ap, subst}
-use Rattle.std.specs.Prelude.{IsSome}
-use Rattle.gv_arena.specs.Contents.{words_or_none}
-use Rattle.gv_arena.specs.Store.{Place}
-use Rattle.gv_arena.proofs.Fields.{place_at}
+use Rattle.std.proofs.Common.{◌∙◌, ℕ, List, get_or, sym, ap}
+use Rattle.gv_arena.proofs.Fields.{words_are, page_within}
 use Rattle.gv_arena.proofs.arena.Arena.word.Goals as goal
 
-pub page-requires : goal.page-requires
-page-requires c = subst IsSome (sym (place_at c.self.inside c.args.self.now c.self.invariant c.self.view_is c.args.page)) c.requires.live
+pub word-requires-clause-page : goal.word-requires-clause-page
+word-requires-clause-page c = page_within c.self.inside c.args.self.now c.self.invariant c.self.view_is c.args.page c.requires.live
 
 pub returns : goal.returns
-returns c = let is = sym (place_at c.self.inside c.args.self.now c.self.invariant c.self.view_is c.args.page) ∙ c.page.ensures in
-    sym (ap (λ (p : Place). get_or (words_or_none p) c.args.index 0) is)
+returns c = c.word.ensures ∙ ap (λ (words : List ℕ). get_or words c.args.index 0) (sym (words_are c.self.inside c.args.self.now c.self.invariant c.self.view_is c.args.page c.requires.live))

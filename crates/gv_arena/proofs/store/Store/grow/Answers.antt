@@ -1,15 +1,14 @@
--- Chunk after chunk of empty places comes after those that were there.
-use Rattle.std.proofs.Common.{◌≡◌, ◌++◌, List, length, arith, ap, ◌∙◌}
-use Rattle.gv_arena.specs.Store.{Place, joined, no_pages}
+-- Chunk after chunk comes after the pages that were there.
+use Rattle.std.proofs.Common.{◌≡◌, ◌++◌, length, arith, ap, ◌∙◌, length-append}
+use Rattle.gv_arena.specs.Store.{joined}
 use Rattle.gv_arena.proofs.Joined.{length-joined, joined_push, chunks_push}
-use Rattle.gv_arena.proofs.Longer.{length-no_pages, longer_same, longer_length, longer_more}
+use Rattle.gv_arena.proofs.Longer.{length-zero_pages, longer_same, longer_more}
 use Rattle.gv_arena.proofs.store.Store.grow.Goals as goal
 
 pub loop-self-init : goal.loop-self-init
 loop-self-init c = record {
   chunks = c.self.invariant;
   longer = longer_same (joined c.self.inside.chunks.items);
-  grown = omega arith;
   within = omega (arith, ap length c.self.view_is, c.requires.1);
 }
 
@@ -24,17 +23,12 @@ loop-self-preserved c =
     let inv = c.loop-self.invariant in
     let chunk = c.in_ok-chunk.chunk in
     let now = c.in_ok-push.ensures.items in
-    let long : length chunk ≡ 64 = ap length c.in_ok-chunk.ensures ∙ length-no_pages 64 in
-    let first = joined c.self.inside.chunks.items in
-    let last = joined c.push.new.self.items in
-    let more : last ≡ joined chunks.items ++ no_pages 64 = ap joined now ∙ joined_push chunks.items chunk ∙ ap (λ (ps : List Place). joined chunks.items ++ ps) c.in_ok-chunk.ensures in
-    let count = longer_length first (joined chunks.items) last 64 more in
-    let fewer = length-joined chunks.items inv.chunks in
+    let long : length chunk ≡ 64 = ap length c.in_ok-chunk.ensures ∙ length-zero_pages in
+    let more : joined c.push.new.self.items ≡ joined chunks.items ++ chunk = ap joined now ∙ joined_push chunks.items chunk in
     record {
       chunks = rw now (chunks_push chunks.items chunk inv.chunks long);
-      longer = longer_more first (joined chunks.items) last 64 more inv.longer inv.grown;
-      grown = omega (arith, count, inv.grown);
-      within = omega (arith, count, fewer, c.loop-self-test.true, c.len.ensures, chunks.ok.0, c.requires.0);
+      longer = rw more (longer_more (joined c.self.inside.chunks.items) (joined chunks.items) chunk inv.longer);
+      within = omega (arith, ap length more, length-append (joined chunks.items) chunk, long, length-joined chunks.items inv.chunks, c.loop-self-test.true, c.len.ensures, chunks.ok.0, c.requires.0);
     }
 
 pub returns-clause-ok : goal.returns-clause-ok

@@ -6,7 +6,6 @@ abbrev pub invariant-loop-self : goal.invariant-loop-self
 invariant-loop-self l = record {
   chunks : AreChunks l.self-inside.chunks.items;
   longer : IsLonger (joined l.initial.self-inside.chunks.items) (joined l.self-inside.chunks.items);
-  grown : length (joined l.initial.self-inside.chunks.items) ≤ length (joined l.self-inside.chunks.items);
   within : length (joined l.self-inside.chunks.items) ≤ 131072;
 }
 

@@ -16,7 +16,7 @@ pub loop-n-preserved : goal.loop-n-preserved
 loop-n-preserved c =
     let within : c.loop-n.n < length c.loop-n.words = omega arith in
     record {
-      long = length-set c.loop-n.words c.loop-n.n c.dword.result ∙ c.loop-n.invariant.long;
-      words = fetch-step (whole c.args.self.now) c.args.context.now.root c.args.global c.args.at c.loop-n.n c.dword.result c.loop-n.words within c.loop-n.invariant.words c.dword.ensures;
-      strayed = stray-step (whole c.args.self.now) (loaded_of c.args.context.now) c.args.global c.args.at c.loop-n.n c.loop-n.strayed c.dword_strays.result c.either-strayed.result c.loop-n.invariant.strayed c.dword_strays.ensures c.either-strayed.ensures;
+      long = length-set c.loop-n.words c.loop-n.n c.dword-word.result.0 ∙ c.loop-n.invariant.long;
+      words = fetch-step (whole c.args.self.now) c.args.context.now.root c.args.global c.args.at c.loop-n.n c.dword-word.result.0 c.loop-n.words within c.loop-n.invariant.words c.dword-word.ensures.value;
+      strayed = stray-step (whole c.args.self.now) (loaded_of c.args.context.now) c.args.global c.args.at c.loop-n.n c.loop-n.strayed c.dword-word.result.1 c.either-strayed.result c.loop-n.invariant.strayed c.dword-word.ensures.strayed c.either-strayed.ensures;
     }

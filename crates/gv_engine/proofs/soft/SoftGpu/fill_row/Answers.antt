@@ -1,15 +1,11 @@
-use Rattle.std.proofs.Common.{sym, refl, ◌+◌}
+use Rattle.std.proofs.Common.{◌∙◌, get_or}
 use Rattle.gv_gpu.specs.Step.{colour_byte}
 use Rattle.gv_engine.specs.Running.{stepping}
 use Rattle.gv_engine.specs.Whole.{whole}
-use Rattle.gv_engine.proofs.RowLemmas.{bytes_stored-none, stored-step}
+use Rattle.gv_engine.proofs.RowLemmas.{bytes_stored-same}
 use Rattle.gv_engine.proofs.soft.SoftGpu.fill_row.Goals as goal
 
-pub loop-n-init : goal.loop-n-init
-loop-n-init c = λ engine. sym (bytes_stored-none (stepping (whole c.args.self.now) engine c.args.context.now c.args.strayed) c.args.to (colour_byte c.args.colour c.args.depth))
-
-pub loop-n-preserved : goal.loop-n-preserved
-loop-n-preserved c = λ engine.
-    stored-step (stepping (whole c.args.self.now) engine c.args.context.now c.args.strayed) (whole c.loop-n.self) (whole c.store_byte.new.self) engine c.args.context.now
-    c.loop-n.strayed c.write_strays.result c.either-strayed.result c.args.to c.loop-n.n (c.args.to + c.loop-n.n) c.colour_byte.result (colour_byte c.args.colour c.args.depth)
-    (c.loop-n.invariant engine) refl c.colour_byte.ensures c.write_strays.ensures c.either-strayed.ensures c.store_byte.ensures
+pub returns : goal.returns
+returns c = λ engine.
+    c.write_row.ensures engine
+    ∙ bytes_stored-same (stepping (whole c.args.self.now) engine c.args.context.now c.args.strayed) c.args.to (λ k. get_or c.colour_bytes.new.row k 0) (colour_byte c.args.colour c.args.depth) c.args.count c.colour_bytes.ensures

@@ -8,5 +8,5 @@ loop-n-init c = sym (fields_stored-none (whole c.args.self.now) c.args.descripto
 
 pub loop-n-preserved : goal.loop-n-preserved
 loop-n-preserved c =
-    fields_stored-step (whole c.args.self.now) (whole c.loop-n.self) (whole c.store_operand.new.self) c.args.descriptor c.args.fields c.loop-n.n c.state_at-at.result
-    c.loop-n.invariant c.state_at-at.ensures c.store_operand.ensures
+    fields_stored-step (whole c.args.self.now) (whole c.loop-n.self) (whole c.store_global_dword.new.self) c.args.descriptor c.args.fields c.loop-n.n c.state_at-at.result
+    c.loop-n.invariant c.state_at-at.ensures c.store_global_dword.ensures
