@@ -1,7 +1,6 @@
 -- The command that comes next, read by the engine at its place.
-use Rattle.std.proofs.Common.{◌≡◌, ℕ, suc, zero, ◌+◌, ◌-◌, ◌*◌, ◌/◌, ◌%◌, ◌^◌, ◌<◌, ◌≤◌, Bool, true, false, not, cond, min, List, [], ◌∷◌, ◌++◌, length, get_or, Option, None, Some, Ok, refl, ap, sym, subst, ◌∙◌, arith}
+use Rattle.std.proofs.Common.{◌≡◌, ℕ, ◌+◌, ◌*◌, ◌%◌, ◌^◌, Bool, true, false, not, cond, min, List, [], ◌∷◌, length, Option, None, Some, refl, ap, sym, subst, ◌∙◌, arith}
 use Rattle.std.specs.List.{concat}
-use Rattle.std.specs.Bool.{MatchBool}
 use Rattle.gv_ctx.specs.declared.saved.Batch.{Batch}
 use Rattle.gv_ctx.specs.declared.saved.Saved.{Saved}
 use Rattle.gv_cmd.specs.Command.{IsCommand}
@@ -10,9 +9,9 @@ use Rattle.gv_cmd.specs.declared.stands.Stands.TheVariants.{Ring, Privileged, Se
 use Rattle.gv_gpu.specs.Device.{Device, Loaded}
 use Rattle.gv_gpu.specs.Step.{Fetched as FetchedWords, fetched_from, fetched, front_by, address_of, is_global_by, past_by, past}
 use Rattle.gv_fetch.specs.Items.{Items, none, command, batch, MayAllStand}
-use Rattle.gv_scan.specs.Layout.{Layout, Begins, Copies, RingAt, BatchAt}
+use Rattle.gv_scan.specs.Layout.{Layout, Begins, RingAt, BatchAt}
 use Rattle.gv_fetch.specs.Left.{Level, Fetched, At, Left, words_of, started, started_by, behind, is_none, is_done_by, privileged_by, front_by as own_front_by, past_by as own_past_by, past as own_past, LevelMayStand, IsLeft, is_done, is_privileged, front}
-use Rattle.gv_sring.specs.Copy.{HasCopy, Copied}
+use Rattle.gv_sring.specs.Copy.{Copied}
 use Rattle.gv_place.specs.Place.{LevelAt, Follows, StandsFor}
 use Rattle.gv_place.proofs.Reading.{ends-within, begins-past}
 use Rattle.gv_place.proofs.Levels.{FrontCopy, Front, front-of, fetched-front, fetched-clean}
@@ -114,7 +113,9 @@ module _ (d : Device) (image : ℕ) (p : Layout) (l : Loaded) (engine : ℕ) (pl
       → is_done_by w.ring f s ≡ false → privileged_by f s ≡ true
       → By (fetched_from d l (is_global_by first second) (front_by (l.ring_start + place.ring) first second)) f s (λ n. Follows p (past_by place n first second) (own_past_by w n f s))
   by-levels first (Some b) f (Some (Fetched items)) atf ats mf ms more priv = record {
-    items = items; front = λ read. refl; started = refl;
+    items = items;
+    front = λ read. refl;
+    started = refl;
     read = with_past _ items _ _ (batch-read d image p l engine copied Second b items ats.0 (some-second engine items ms) ms ats.1)
         (λ n at. record { ring = follows.ring; first = follows.first; second = (ats.0, at) });
   }
@@ -122,7 +123,9 @@ module _ (d : Device) (image : ℕ) (p : Layout) (l : Loaded) (engine : ℕ) (pl
   by-levels first (Some b) f None atf ats mf ms more priv = absurd ats
   by-levels first None f (Some level) atf ats mf ms more priv = absurd ats
   by-levels (Some b) None (Some (Fetched items)) None atf ats mf ms more priv = record {
-    items = items; front = λ read. refl; started = refl;
+    items = items;
+    front = λ read. refl;
+    started = refl;
     read = with_past _ items _ _ (batch-read d image p l engine copied Privileged b items atf.0 (some-privileged engine items mf) mf atf.1)
         (λ n at. record { ring = follows.ring; first = (atf.0, at); second = follows.second });
   }
@@ -130,7 +133,9 @@ module _ (d : Device) (image : ℕ) (p : Layout) (l : Loaded) (engine : ℕ) (pl
   by-levels (Some b) None None None atf ats mf ms more priv = absurd atf
   by-levels None None (Some level) None atf ats mf ms more priv = absurd atf
   by-levels None None None None atf ats mf ms more priv = record {
-    items = w.ring; front = λ read. refl; started = refl;
+    items = w.ring;
+    front = λ read. refl;
+    started = refl;
     read = with_past _ w.ring _ _ (ring-read d image p l engine copied place.ring w.ring more form.ring follows.ring)
         (λ n at. record { ring = at; first = follows.first; second = follows.second });
   }

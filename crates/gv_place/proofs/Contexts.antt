@@ -1,5 +1,5 @@
 -- A context that is put away, and one that is brought back.
-use Rattle.std.proofs.Common.{◌≡◌, ◌≢◌, ℕ, None, Some, refl, ap, sym, subst, ◌∙◌}
+use Rattle.std.proofs.Common.{◌≡◌, ℕ, None, Some, refl, sym, subst}
 use Rattle.gv_ctx.specs.Saved.{fields_of}
 use Rattle.gv_fetch.specs.Left.{Left}
 use Rattle.gv_gpu.specs.Context.{context_of, stopped, submitted}

@@ -1,17 +1,16 @@
 -- A context has ended exactly where nothing is left; and it stands where what is left does.
-use Rattle.std.proofs.Common.{◌≡◌, ℕ, ◌+◌, ◌*◌, ◌%◌, ◌<◌, ◌≤◌, Bool, true, false, cond, eqb, List, [], ◌∷◌, ◌++◌, length, Option, None, Some, refl, ap, sym, subst, ◌∙◌, arith}
+use Rattle.std.proofs.Common.{◌≡◌, ℕ, ◌+◌, ◌*◌, ◌%◌, ◌≤◌, Bool, true, false, cond, eqb, [], ◌++◌, length, Option, None, Some, refl, ap, ◌∙◌, arith}
 use Rattle.std.specs.List.{concat}
 use Rattle.std.proofs.lemmas.List.{append-nil}
 use Rattle.std.proofs.lemmas.Bool.Decides.{nat_tests}
 use Rattle.gv_ctx.specs.declared.saved.Batch.{Batch}
-use Rattle.gv_ctx.specs.declared.saved.Saved.{Saved}
 use Rattle.gv_cmd.specs.declared.stands.Stands.{Stands as StandsIn}
-use Rattle.gv_cmd.specs.declared.stands.Stands.TheVariants.{Ring, Privileged, Live, Second}
+use Rattle.gv_cmd.specs.declared.stands.Stands.TheVariants.{Ring, Privileged, Live}
 use Rattle.gv_cmd.proofs.Lengths.{IsCommand-length}
 use Rattle.gv_gpu.specs.Device.{Device, Loaded}
 use Rattle.gv_gpu.specs.Step.{stands_by, is_global_by, has_ended}
 use Rattle.gv_fetch.specs.Items.{Items, none, command, batch, MayAllStand}
-use Rattle.gv_scan.specs.Layout.{Layout, Copies, RingAt}
+use Rattle.gv_scan.specs.Layout.{Layout, RingAt}
 use Rattle.gv_fetch.specs.Left.{Level, Fetched, At, Left, is_none, is_done_by, is_done, stands_by as own_stands_by, privileged_by, IsLeft}
 use Rattle.gv_place.specs.Place.{LevelAt, StandsFor}
 use Rattle.gv_place.proofs.Reading.{ends-within}

@@ -1,5 +1,5 @@
 -- What changes neither window entries nor shadow pages leaves the copies and the place.
-use Rattle.std.proofs.Common.{◌≡◌, ℕ, ◌+◌, ◌*◌, ◌/◌, ◌%◌, ◌^◌, ◌<◌, Bool, true, false, cond, eqb, ltb, List, [], ◌∷◌, length, get_or, Option, None, Some, is_some, refl, ap, sym, subst, ◌∙◌, arith}
+use Rattle.std.proofs.Common.{◌≡◌, ℕ, ◌+◌, ◌*◌, ◌/◌, ◌%◌, ◌^◌, Bool, true, false, cond, eqb, ltb, List, [], ◌∷◌, get_or, Option, None, Some, is_some, refl, ap, sym, ◌∙◌, arith}
 use Rattle.std.specs.List.{concat}
 use Rattle.std.specs.Int.{from_le_bytes, w32}
 use Rattle.std.proofs.lemmas.Bool.Decides.{nat_tests}
@@ -7,7 +7,7 @@ use Rattle.gv_types.specs.Memory.{half_of}
 use Rattle.gv_types.specs.declared.ids.Label.{Label}
 use Rattle.gv_gpu.specs.Device.{Device, Loaded}
 use Rattle.gv_gpu.specs.Part.{Part, inside, is_in_windows}
-use Rattle.gv_gpu.specs.Physical.{live_page, page_of, read_page, word_in, byte_at, operand_at, dword_at}
+use Rattle.gv_gpu.specs.Physical.{page_of, read_page, word_in, byte_at, operand_at, dword_at}
 use Rattle.gv_gpu.proofs.Seen.{label-same, words-same, global-same}
 use Rattle.gv_scan.specs.Layout.{Layout}
 use Rattle.gv_fetch.specs.Left.{Left}

@@ -1,22 +1,20 @@
 -- The front item of a level: its copy is what an engine fetches there, and the items behind it stand
 -- behind the copy.
-use Rattle.std.proofs.Common.{◌≡◌, ℕ, suc, zero, ◌+◌, ◌-◌, ◌*◌, ◌/◌, ◌%◌, ◌^◌, ◌<◌, ◌≤◌, Bool, true, false, List, [], ◌∷◌, ◌++◌, length, get_or, Option, None, Some, Ok, refl, ap, sym, subst, ◌∙◌, arith}
+use Rattle.std.proofs.Common.{◌≡◌, ℕ, ◌+◌, ◌*◌, ◌%◌, true, false, List, [], ◌∷◌, length, ap, sym, subst, ◌∙◌, arith}
 use Rattle.std.specs.List.{concat}
-use Rattle.std.specs.Bool.{MatchBool}
 use Rattle.gv_cmd.specs.Table.{kind_of}
-use Rattle.gv_cmd.specs.Allowed.{is_allowed}
-use Rattle.gv_cmd.specs.Command.{IsCommand, decoded}
+use Rattle.gv_cmd.specs.Command.{IsCommand}
 use Rattle.gv_cmd.specs.declared.stands.Stands.{Stands}
 use Rattle.gv_cmd.proofs.Lengths.{IsCommand-length}
 use Rattle.gv_gpu.specs.Device.{Device, Loaded}
 use Rattle.gv_gpu.specs.Step.{fetched_from}
-use Rattle.gv_fetch.specs.Items.{Items, none, command, batch, inside, is_fetched_start, MayStand, MayAllStand}
+use Rattle.gv_fetch.specs.Items.{Items, none, command, batch, is_fetched_start, MayStand, MayAllStand}
 use Rattle.gv_fetch.specs.Items.{start_at}
 use Rattle.gv_scan.specs.Layout.{Layout, Begins, Started, Copies, BatchAt}
 use Rattle.gv_fetch.specs.Left.{words_of, started, behind, is_none}
-use Rattle.gv_fetch.proofs.Readdressed.{SameStart, start_copied, decoded-whole}
+use Rattle.gv_fetch.proofs.Readdressed.{SameStart, start_copied}
 use Rattle.gv_sring.specs.Copy.{HasCopy}
-use Rattle.gv_place.proofs.Reading.{begins-past, dword-here, shown-here, any-root, fetched-are, fetched-strays}
+use Rattle.gv_place.proofs.Reading.{dword-here, shown-here, any-root, fetched-are, fetched-strays}
 use Rattle.gv_place.proofs.Strays.{dwords-no-stray}
 
 -- How a copy stands for a command: it is the command, or it starts the copy of the batch.
@@ -42,7 +40,11 @@ module _ (p : Layout) (fours : p.base % 4 ≡ 0) (stands : Stands) (engine base 
   -- a plain command is its own copy
   plain : (ws c : List ℕ) (more : Items) (rest : List (List ℕ)) → Begins base commands at (c ∷ rest) → c ≡ ws → Copies p.base p.batches more rest after → MayStand stands engine ws → is_fetched_start (kind_of ws) ≡ false → Front p base commands at (command ws more) after
   plain ws c more rest begins is copies may not = record {
-    c = c; rest = rest; begins = begins; copies = copies; own = may.command;
+    c = c;
+    rest = rest;
+    begins = begins;
+    copies = copies;
+    own = may.command;
     command = subst IsCommand (sym is) may.command;
     long = ap length is;
     copy = same is not;
@@ -55,7 +57,11 @@ module _ (p : Layout) (fours : p.base % 4 ≡ 0) (stands : Stands) (engine base 
       let P : List ℕ → Type 0 = λ x. SameStart ws x s.to in
       let mine = subst P (sym s.copy) own in
       record {
-        c = c; rest = rest; begins = begins; copies = copies; own = may.command;
+        c = c;
+        rest = rest;
+        begins = begins;
+        copies = copies;
+        own = may.command;
         command = mine.command;
         long = ap length s.copy ∙ sym mine.few;
         copy = start s.to s.copy mine (record { rest = s.rest; begins = s.begins; behind = s.behind; copies = s.inside });

@@ -1,5 +1,5 @@
 -- The next command of a live batch is read where the guest's own is, and the place moves alike.
-use Rattle.std.proofs.Common.{◌≡◌, ℕ, suc, zero, ◌+◌, ◌*◌, ◌%◌, ◌^◌, ◌<◌, ◌≤◌, Bool, true, false, not, cond, min, List, [], ◌∷◌, length, get_or, take, Option, None, Some, refl, ap, sym, subst, ◌∙◌, arith}
+use Rattle.std.proofs.Common.{◌≡◌, ℕ, suc, zero, ◌+◌, ◌*◌, ◌%◌, ◌^◌, ◌<◌, ◌≤◌, Bool, true, false, not, cond, min, List, length, get_or, Option, None, Some, refl, ap, sym, subst, ◌∙◌, arith}
 use Rattle.std.proofs.lemmas.List.{take_all}
 use Rattle.gv_ctx.specs.declared.saved.Batch.{Batch}
 use Rattle.gv_ctx.specs.declared.saved.Saved.{Saved}
@@ -43,7 +43,7 @@ module _ (d : Device) (l : Loaded) (read : ℕ → ℕ) (agree : ReadsSame d l.r
       let enough : n ≤ length (dwords read at n) = omega arith in
       let few : length (dwords read at n) ≤ n = omega arith in
       dwords-are d l.root false at (dwords read at n)
-          (λ k h. let less : k < n = omega arith in agree.dword (at + 4 * k) (four at k fit) ∙ sym (get-dwords read at n k less)) n enough
+      (λ k h. let less : k < n = omega arith in agree.dword (at + 4 * k) (four at k fit) ∙ sym (get-dwords read at n k less)) n enough
       ∙ take_all n (dwords read at n) few
 
   counts : (o : Option ℕ) → count_by o ≡ own_count_by o

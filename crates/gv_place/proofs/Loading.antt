@@ -1,6 +1,5 @@
 -- A program that was built into the window, loaded from its front.
-use Rattle.std.proofs.Common.{◌≡◌, ℕ, ◌+◌, ◌*◌, List, length, Option, None, Some, refl, ap, sym, subst, ◌∙◌}
-use Rattle.std.specs.List.{concat}
+use Rattle.std.proofs.Common.{◌≡◌, ℕ, ◌*◌, List, length, ap, sym, subst, ◌∙◌}
 use Rattle.gv_ctx.specs.declared.saved.Saved.{Saved}
 use Rattle.gv_cmd.specs.declared.stands.Stands.TheVariants.{Ring}
 use Rattle.gv_gpu.specs.Device.{Device, Loaded}

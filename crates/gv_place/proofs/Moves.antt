@@ -1,15 +1,14 @@
 -- A place moves as what is left does.
-use Rattle.std.proofs.Common.{◌≡◌, ℕ, ◌+◌, ◌*◌, ◌%◌, ◌^◌, Bool, true, false, List, length, Option, None, Some, refl, ap, sym, subst, ◌∙◌}
+use Rattle.std.proofs.Common.{◌≡◌, ℕ, Bool, true, false, List, Option, None, Some, refl, sym, subst}
 use Rattle.gv_ctx.specs.declared.saved.Batch.{Batch}
 use Rattle.gv_ctx.specs.declared.saved.Saved.{Saved}
 use Rattle.gv_cmd.specs.Table.{kind_of}
 use Rattle.gv_cmd.specs.declared.kind.Kind.{Kind}
 use Rattle.gv_cmd.specs.declared.kind.Kind.TheVariants.{BatchEnd, BatchStart}
-use Rattle.gv_gpu.specs.Step.{left_by, left, entered, moved_by}
+use Rattle.gv_gpu.specs.Step.{left_by, entered, moved_by}
 use Rattle.gv_fetch.specs.Items.{Items, is_fetched_start}
-use Rattle.gv_scan.specs.Layout.{Layout, BatchAt}
+use Rattle.gv_scan.specs.Layout.{Layout}
 use Rattle.gv_fetch.specs.Left.{Level, Fetched, At, Left, left_by as own_left_by, entered as own_entered, moved_by as own_moved_by}
-use Rattle.gv_fetch.proofs.Readdressed.{SameStart}
 use Rattle.gv_place.specs.Place.{LevelAt, Follows}
 use Rattle.gv_place.proofs.Levels.{FrontCopy, same, start}
 

@@ -1,5 +1,5 @@
 -- The dwords of a command where it stands among others, as an engine reads them.
-use Rattle.std.proofs.Common.{◌≡◌, ℕ, suc, zero, ◌+◌, ◌-◌, ◌*◌, ◌/◌, ◌%◌, ◌^◌, ◌<◌, ◌≤◌, Bool, true, false, List, [], ◌∷◌, ◌++◌, length, get_or, take, Option, None, Some, refl, ap, sym, subst, ◌∙◌, arith, append_assoc, length-append}
+use Rattle.std.proofs.Common.{◌≡◌, ℕ, suc, zero, ◌+◌, ◌*◌, ◌<◌, ◌≤◌, Bool, true, List, [], ◌∷◌, ◌++◌, length, get_or, take, Some, refl, ap, sym, subst, ◌∙◌, arith, append_assoc, length-append}
 use Rattle.std.specs.List.{concat}
 use Rattle.std.proofs.Math.Seq.{take-suc}
 use Rattle.std.proofs.lemmas.List.{append-nil, get_or_append_left, get_or-append-add, take_all}
@@ -34,7 +34,7 @@ module _ (base : ℕ) (commands : List (List ℕ)) (at : ℕ) (c : List ℕ) (re
     split = b.split ∙ sym (append_assoc b.before (c ∷ []) rest);
     count = let n = b.count in
         let l : length (concat (b.before ++ c ∷ [])) ≡ first + length c
-            = ap length (concat-append b.before (c ∷ [])) ∙ length-append (concat b.before) (c ++ []) ∙ ap (λ xs. first + length xs) (append-nil c) in
+        = ap length (concat-append b.before (c ∷ [])) ∙ length-append (concat b.before) (c ++ []) ∙ ap (λ xs. first + length xs) (append-nil c) in
         omega arith;
   }
 

@@ -1,22 +1,19 @@
 -- A step of an engine in a copied program, against the command that is next for the guest.
-use Rattle.std.proofs.Common.{◌≡◌, ℕ, ◌+◌, ◌*◌, ◌%◌, Bool, true, false, List, length, get_or, Option, None, Some, Ok, refl, ap, sym, subst, ◌∙◌}
+use Rattle.std.proofs.Common.{◌≡◌, ℕ, true, false, List, length, get_or, ap, sym, subst}
 use Rattle.gv_cmd.specs.Allowed.{is_allowed}
 use Rattle.gv_cmd.specs.Table.{kind_of}
-use Rattle.gv_cmd.specs.Command.{IsCommand, decoded, shape_of}
+use Rattle.gv_cmd.specs.Command.{IsCommand, shape_of}
 use Rattle.gv_cmd.specs.Effect.{effect}
-use Rattle.gv_cmd.specs.declared.stands.Stands.{Stands as StandsIn}
 use Rattle.gv_gpu.specs.Device.{Device, Loaded}
-use Rattle.gv_gpu.specs.Step.{Stepping, operations, fetched, stands_of, is_privileged, past, moved}
+use Rattle.gv_gpu.specs.Step.{operations, past, moved}
 use Rattle.gv_fetch.specs.Items.{Items}
-use Rattle.gv_fetch.specs.Items.{start_at}
 use Rattle.gv_scan.specs.Layout.{Layout}
-use Rattle.gv_fetch.specs.Left.{Left, IsLeft, is_done, front, words_of, started as started_items, stands_of as own_stands_of, is_privileged as own_is_privileged, past as own_past, moved as own_moved, moved_by as own_moved_by}
-use Rattle.gv_fetch.proofs.Readdressed.{SameStart, allowed-same, shape-same, effect-same, decoded-whole}
+use Rattle.gv_fetch.specs.Left.{Left, IsLeft, is_done, front, words_of, started as started_items, is_privileged as own_is_privileged, past as own_past, moved_by as own_moved_by}
+use Rattle.gv_fetch.proofs.Readdressed.{allowed-same, shape-same, effect-same, decoded-whole}
 use Rattle.gv_place.specs.Place.{Follows, StandsFor}
 use Rattle.gv_place.specs.Steps.{SameCommand, Runs}
 use Rattle.gv_place.proofs.Levels.{FrontCopy, same, start}
-use Rattle.gv_place.proofs.Ahead.{Next, next-fetched}
-use Rattle.gv_place.proofs.Ends.{stands-same, privileged-same}
+use Rattle.gv_place.proofs.Ahead.{next-fetched}
 use Rattle.gv_place.proofs.Moves.{moved-follows}
 
 same-command : (p : Layout) (ws c : List ℕ) (items : Items) → IsCommand ws → FrontCopy p ws c items → SameCommand ws c
@@ -41,7 +38,7 @@ runs-fetched d image p l engine w read stands form more priv =
     let r = n.read in
     let ws = words_of n.items in
     let shifted : Follows p (past l.place (length r.c)) (own_past w (length ws)) =
-        (let F : ℕ → Type 0 = λ k. Follows p (past l.place k) (own_past w (length ws)) in subst F (sym r.long) r.past) in
+    (let F : ℕ → Type 0 = λ k. Follows p (past l.place k) (own_past w (length ws)) in subst F (sym r.long) r.past) in
     let m = moved-follows p (past l.place (length r.c)) (own_past w (length ws)) shifted ws r.c (started_items n.items) r.copy in
     let own : Runs d image p l w ws = record {
       c = r.c;

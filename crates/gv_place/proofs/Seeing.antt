@@ -1,5 +1,5 @@
 -- The device determines what is left, but for the addresses of privileged batches.
-use Rattle.std.proofs.Common.{◌≡◌, ℕ, suc, zero, ◌+◌, ◌-◌, ◌*◌, ◌%◌, ◌<◌, ◌≤◌, max, Bool, true, false, cond, eqb, List, [], ◌∷◌, ◌++◌, length, get_or, Option, None, Some, refl, ap, sym, subst, ◌∙◌, arith}
+use Rattle.std.proofs.Common.{◌≡◌, ℕ, suc, zero, ◌+◌, ◌*◌, ◌%◌, ◌<◌, ◌≤◌, Bool, true, false, cond, eqb, List, [], ◌∷◌, ◌++◌, length, get_or, Option, None, Some, refl, ap, sym, subst, ◌∙◌, arith}
 use Rattle.std.specs.List.{concat}
 use Rattle.std.specs.Bool.{MatchBool}
 use Rattle.std.proofs.lemmas.List.{append-nil, ext_get_or}
@@ -15,7 +15,7 @@ use Rattle.gv_cmd.specs.declared.stands.Stands.TheVariants.{Ring, Privileged, Li
 use Rattle.gv_cmd.proofs.Lengths.{IsCommand-length}
 use Rattle.gv_gpu.specs.Device.{Device, Loaded}
 use Rattle.gv_gpu.specs.Physical.{dword_at}
-use Rattle.gv_fetch.specs.Items.{Items, none, command, batch, inside, is_fetched_start, is_end, MayStand, MayAllStand}
+use Rattle.gv_fetch.specs.Items.{Items, none, command, batch, inside, is_fetched_start, is_end, MayAllStand}
 use Rattle.gv_fetch.specs.Fetch.{dwords, by_kind}
 use Rattle.gv_fetch.specs.Items.{start_at}
 use Rattle.gv_scan.specs.Layout.{Layout, Begins, Started, Copies}
@@ -39,7 +39,7 @@ command-seen read at c good each =
     let count : count_by (length_of (read at)) ≡ length c = ap (λ h. count_by (length_of h)) header ∙ ap count_by good.length in
     ap (dwords read at) count
     ∙ ext_get_or 0 (dwords read at (length c)) c (length-dwords read at (length c))
-      (λ k h. let l = length-dwords read at (length c) in let less : k < length c = omega arith in get-dwords read at (length c) k less ∙ each k less)
+    (λ k h. let l = length-dwords read at (length c) in let less : k < length c = omega arith in get-dwords read at (length c) k less ∙ each k less)
 
 goes-on : (kind : Option Kind) → is_end kind ≡ false → is_fetched_start kind ≡ false → {A : Type 0} (starts : ℕ → A) (ends goes : A) → by_kind kind starts ends goes ≡ goes
 goes-on (Some BatchEnd) is not starts ends goes = cc
@@ -92,9 +92,9 @@ module _ (d : Device) (guest image : ℕ) (p : Layout) (fours : p.base % 4 ≡ 0
       ap (step n at) (here at c rest begins good)
       ∙ ap (step n at) copies.0
       ∙ by-end n at ws more (is_end (kind_of ws)) refl may.1
-        (behind-match stands more (is_end (kind_of ws)) (batch_seen n read (at + 4 * length ws) ≡ more) may.2 (λ all.
-            ap (λ x. batch_seen n read (at + 4 * length x)) (sym copies.0)
-            ∙ batch-seen n (at + 4 * length c) stands more rest behind fewer (begins-past p.base p.batches at c rest begins) copies.1 all batched))
+      (behind-match stands more (is_end (kind_of ws)) (batch_seen n read (at + 4 * length ws) ≡ more) may.2 (λ all.
+      ap (λ x. batch_seen n read (at + 4 * length x)) (sym copies.0)
+      ∙ batch-seen n (at + 4 * length c) stands more rest behind fewer (begins-past p.base p.batches at c rest begins) copies.1 all batched))
   batch-seen (suc n) at stands (batch ws items more) [] behind enough begins copies may batched = absurd copies
   batch-seen (suc n) at stands (batch ws items more) (c ∷ rest) behind enough begins copies may batched =
       let s = copies.0 in
@@ -104,8 +104,8 @@ module _ (d : Device) (guest image : ℕ) (p : Layout) (fours : p.base % 4 ≡ 0
       let fewer : depth more ≤ n = omega arith in
       ap (step n at) (here at c rest begins good)
       ∙ started-seen n at ws c items more s same
-        (batch-seen n s.to (inside stands) items s.rest s.behind inner_fewer s.begins s.inside may.2 (inside-batch stands))
-        (batch-seen n (at + 4 * length c) stands more rest behind fewer (begins-past p.base p.batches at c rest begins) copies.1 may.3 batched)
+      (batch-seen n s.to (inside stands) items s.rest s.behind inner_fewer s.begins s.inside may.2 (inside-batch stands))
+      (batch-seen n (at + 4 * length c) stands more rest behind fewer (begins-past p.base p.batches at c rest begins) copies.1 may.3 batched)
       ∙ ap (λ x. batch x items more) (sym may.4)
     where
       inside-batch : (stands : Stands) → inside stands ≡ Ring → ⊥
@@ -189,7 +189,7 @@ module _ (d : Device) (guest image : ℕ) (p : Layout) (fours : p.base % 4 ≡ 0
       ∙ ap (λ k. by_kind k (λ to. batch (start_at c 0) (batch_seen n dword to) (ring_seen n dword (start + at + 4 * length c) end)) none (command c (ring_seen n dword (start + at + 4 * length c) end))) kind
       ∙ ap (λ x. batch (start_at x 0) (batch_seen n dword s.to) (ring_seen n dword (start + at + 4 * length c) end)) s.copy
       ∙ ap (λ i. batch (start_at ws 0) i (ring_seen n dword (start + at + 4 * length c) end))
-        (batch-seen d guest image p fours engine copied.batches n s.to Privileged items s.rest s.behind inner_fewer s.begins s.inside may.2 (λ is. cc))
+      (batch-seen d guest image p fours engine copied.batches n s.to Privileged items s.rest s.behind inner_fewer s.begins s.inside may.2 (λ is. cc))
       ∙ ap (batch (start_at ws 0) items) (sym (on at n c) ∙ ring-seen n (at + 4 * length c) more rest fewer (begins-past 0 p.ring at c rest begins) copies.1 may.3)
       ∙ ap (λ x. batch x items more) (sym may.4)
 
@@ -209,8 +209,8 @@ left-seen d image p l engine w stands form short =
     let fours = stands.copied.base_aligned in
     let r = stands.place.ring in
     let ring : (left_seen d l).ring ≡ w.ring =
-        ap (λ t. ring_seen most_commands (dword_at d 0 true) (l.ring_start + l.place.ring) (l.ring_start + t)) stands.tail
-        ∙ ring-seen d l.owner image p fours engine l.ring_start stands.copied most_commands l.place.ring w.ring r.rest short.ring r.begins r.copies form.ring in
+    ap (λ t. ring_seen most_commands (dword_at d 0 true) (l.ring_start + l.place.ring) (l.ring_start + t)) stands.tail
+    ∙ ring-seen d l.owner image p fours engine l.ring_start stands.copied most_commands l.place.ring w.ring r.rest short.ring r.begins r.copies form.ring in
     let first = level-seen d l.owner image p fours engine l.ring_start stands.copied Privileged (λ is. cc) l.place.first w.first stands.place.first form.first short.first in
     let second = level-seen d l.owner image p fours engine l.ring_start stands.copied Second (λ is. cc) l.place.second w.second stands.place.second form.second short.second in
     λ i. record { ring = ring i; first = first i; second = second i }

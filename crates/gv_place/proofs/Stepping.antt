@@ -1,11 +1,11 @@
 -- One step of the engine on a copied program.
-use Rattle.std.proofs.Common.{◌≡◌, ℕ, ◌+◌, Bool, true, false, List, [], ◌∷◌, ◌++◌, length, Option, None, Some, Ok, Err, refl, ap, sym, subst, ◌∙◌}
+use Rattle.std.proofs.Common.{◌≡◌, ℕ, true, false, List, [], ◌∷◌, ◌++◌, length, Option, None, Some, Ok, Err, refl, ap, subst, ◌∙◌}
 use Rattle.gv_cmd.specs.Allowed.{is_allowed}
 use Rattle.gv_cmd.specs.Command.{decoded, shape_of}
 use Rattle.gv_cmd.specs.Effect.{Effect, effect}
 use Rattle.gv_cmd.specs.declared.command.Unlisted.{Unlisted as UnlistedError}
 use Rattle.gv_gpu.specs.Device.{Device, Loaded, with_loaded}
-use Rattle.gv_gpu.specs.Step.{Stepping, Stepped, operations, fetched, stands_of, is_privileged, settled, moved, ran_after, has_ended, physical_step}
+use Rattle.gv_gpu.specs.Step.{Stepping, operations, fetched, stands_of, is_privileged, settled, moved, ran_after, has_ended, physical_step}
 use Rattle.gv_gpu.specs.declared.step.Step.TheVariants.{Ran, Waits, Ended, Unlisted}
 use Rattle.gv_gpu.proofs.Steps.{start, step-ended, step-front, front-unlisted, front-not_allowed, front-ran, front-waits}
 use Rattle.gv_fetch.specs.Items.{Items}
@@ -76,7 +76,7 @@ module _ (d : Device) (image : ℕ) (p : Layout) (engine : ℕ) (l : Loaded) (w 
         let also : KeepsShadow l.owner image d e = record { entry = keeps.entry; label = keeps.label; words = keeps.words } in
         let after = runs.after in
         let here : StandsFor d image p (record l { place = moved l.place runs.c (length ws) }) (own_moved w ws (length ws)) =
-            (let P : ℕ → Type 0 = λ n. StandsFor d image p (record l { place = moved l.place runs.c n }) (own_moved w ws (length ws)) in subst P runs.long after) in
+        (let P : ℕ → Type 0 = λ n. StandsFor d image p (record l { place = moved l.place runs.c n }) (own_moved w ws (length ws)) in subst P runs.long after) in
         stands-kept d e image p (record l { place = moved l.place runs.c (length ws) }) (own_moved w ws (length ws)) also here
 
 -- ---- a live batch: the engine reads what the guest's device reads, so the step is that command's

@@ -1,12 +1,9 @@
 -- Reading a copied command strays nowhere.
-use Rattle.std.proofs.Common.{◌≡◌, ℕ, suc, zero, ◌+◌, ◌*◌, ◌/◌, ◌%◌, ◌<◌, ◌≤◌, ◌||◌, not, Bool, true, false, cond, eqb, List, [], ◌∷◌, length, get_or, Option, None, Some, refl, ap, sym, subst, ◌∙◌, arith}
-use Rattle.std.specs.List.{concat}
+use Rattle.std.proofs.Common.{◌≡◌, ℕ, suc, zero, ◌+◌, ◌*◌, ◌%◌, ◌<◌, ◌||◌, not, Bool, true, false, cond, eqb, refl, ap, ◌∙◌, arith}
 use Rattle.std.proofs.lemmas.Bool.Decides.{nat_tests}
-use Rattle.gv_types.specs.declared.ids.Label.{Label}
 use Rattle.gv_gpu.specs.Device.{Device, Loaded}
 use Rattle.gv_gpu.specs.Physical.{is_anothers, page_strays, read_page, walk_strays, read_strays, dword_strays}
 use Rattle.gv_gpu.specs.Step.{dwords_stray}
-use Rattle.gv_sctx.specs.Context.{shadow_label}
 use Rattle.gv_sring.specs.Copy.{Shown}
 use Rattle.gv_place.proofs.Kept.{aligned-test}
 

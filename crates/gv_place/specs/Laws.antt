@@ -1,9 +1,6 @@
 -- What holds of the place of a context in its copies, step by step.
-use Rattle.std.specs.Prelude.{ℕ, ◌*◌, ◌++◌, ◌∷◌, [], ◌≡◌, true, false, List, length, Option, None, Some, Ok, Err}
+use Rattle.std.specs.Prelude.{ℕ, ◌*◌, ◌≡◌, true, false, List, length, None, Some}
 use Rattle.gv_cmd.specs.Allowed.{is_allowed}
-use Rattle.gv_cmd.specs.Command.{decoded, shape_of}
-use Rattle.gv_cmd.specs.Effect.{Effect, effect}
-use Rattle.gv_cmd.specs.declared.command.Unlisted.{Unlisted as UnlistedError}
 use Rattle.gv_cmd.specs.declared.stands.Stands.TheVariants.{Ring}
 use Rattle.gv_ctx.specs.declared.saved.Saved.{Saved}
 use Rattle.gv_fetch.specs.Items.{Items, MayAllStand}
@@ -11,8 +8,8 @@ use Rattle.gv_fetch.specs.Left.{Left, IsLeft, begun, is_done, is_privileged as o
 use Rattle.gv_gpu.specs.Context.{context_of, stopped, submitted}
 use Rattle.gv_gpu.specs.Device.{Device, Loaded, with_loaded}
 use Rattle.gv_gpu.specs.Part.{Part, inside, is_in_windows}
-use Rattle.gv_gpu.specs.Step.{Stepping, operations, fetched, settled, moved, ran_after, has_ended, physical_step}
-use Rattle.gv_gpu.specs.declared.step.Step.TheVariants.{Ran, Waits, Ended, Unlisted}
+use Rattle.gv_gpu.specs.Step.{fetched, settled, moved, ran_after, has_ended, physical_step}
+use Rattle.gv_gpu.specs.declared.step.Step.TheVariants.{Ran, Waits, Ended}
 use Rattle.gv_scan.specs.Layout.{Layout, IsProgram, placed_layout}
 use Rattle.gv_sctx.specs.Context.{shadow_label, HasImage, HoldsContext, FitsDwords}
 use Rattle.gv_sring.specs.Copy.{Copied}

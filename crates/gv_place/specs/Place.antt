@@ -1,6 +1,6 @@
 -- How what is left of an element stands in the device: by the place of the loaded context, and by the
 -- copies in the window.
-use Rattle.std.specs.Prelude.{ℕ, ◌*◌, ◌%◌, List, ◌≡◌, ◌≢◌, true, false, length, Option, None, Some}
+use Rattle.std.specs.Prelude.{ℕ, ◌*◌, ◌%◌, ◌≡◌, ◌≢◌, true, false, length, Option, None, Some}
 use Rattle.std.specs.List.{concat}
 use Rattle.gv_ctx.specs.declared.saved.Batch.{Batch}
 use Rattle.gv_ctx.specs.declared.saved.Saved.{Saved}

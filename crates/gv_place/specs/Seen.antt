@@ -1,5 +1,5 @@
 -- What is left of an element, as it is read in the device: by its place, from the window's copies.
-use Rattle.std.specs.Prelude.{ℕ, suc, zero, ◌+◌, ◌*◌, ◌==◌, true, List, length, ◌≤◌, if◌then◌else◌, Option, None, Some}
+use Rattle.std.specs.Prelude.{ℕ, suc, zero, ◌+◌, ◌*◌, ◌==◌, true, length, ◌≤◌, if◌then◌else◌, Option, None, Some}
 use Rattle.gv_ctx.specs.declared.saved.Batch.{Batch}
 use Rattle.gv_cmd.specs.Table.{kind_of}
 use Rattle.gv_fetch.specs.Fetch.{by_kind}

@@ -1,11 +1,9 @@
 -- A window whose pages hold a placed program has its copy.
-use Rattle.std.proofs.Common.{◌≡◌, ℕ, ◌+◌, ◌*◌, ◌/◌, ◌%◌, ◌^◌, ◌<◌, ◌≤◌, List, length, map, ap, sym, subst, ◌∙◌, arith}
-use Rattle.std.specs.List.{concat}
+use Rattle.std.proofs.Common.{◌≡◌, ℕ, ◌+◌, ◌*◌, ◌/◌, ◌<◌, ◌≤◌, List, length, ap, sym, subst, ◌∙◌, arith}
 use Rattle.gv_gpu.specs.Device.{Device}
-use Rattle.gv_scan.specs.Layout.{placed}
 use Rattle.gv_sring.specs.Copy.{HasCopy, IsCopied}
 use Rattle.gv_sring.specs.Packing.{HoldsParts, ArePlaced, count_of}
-use Rattle.gv_sring.specs.Window.{Window, Shows, first_of, slot_of, ring_pages, page_at, batches_address, ring_address}
+use Rattle.gv_sring.specs.Window.{Window, Shows, slot_of, ring_pages, page_at, batches_address, ring_address}
 use Rattle.gv_sring.proofs.WindowReads.{has-copy, ring-slot, batch-slot}
 
 pages-of : (tail n : ℕ) → tail ≡ 4 * n → (tail + 4095) / 4096 ≡ (n + 1023) / 1024

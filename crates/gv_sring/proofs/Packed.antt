@@ -1,14 +1,12 @@
 -- Dwords that are packed into a page: what the page holds then, and that nothing else changes.
-use Rattle.std.proofs.Common.{◌≡◌, ◌≢◌, ℕ, suc, zero, ◌+◌, ◌-◌, ◌*◌, ◌/◌, ◌%◌, ◌^◌, ◌<◌, ◌≤◌, Bool, true, false, cond, eqb, min, List, length, get_or, set, refl, ap, sym, subst, ◌∙◌, arith, ⊎_elim, get_or-set_same, get_or-set_other, add-one}
+use Rattle.std.proofs.Common.{◌≡◌, ◌≢◌, ℕ, suc, zero, ◌+◌, ◌-◌, ◌*◌, ◌/◌, ◌%◌, ◌^◌, ◌<◌, ◌≤◌, Bool, true, false, cond, eqb, List, length, get_or, set, refl, ap, sym, subst, ◌∙◌, arith, ⊎_elim, get_or-set_same, get_or-set_other, add-one}
 use Rattle.std.proofs.lemmas.List.{length-set, get_or-replicate, get_or_past}
 use Rattle.std.proofs.lemmas.Bool.{cases_lt, cases_eq}
 use Rattle.std.proofs.lemmas.Bool.Decides.{nat_tests}
-use Rattle.std.proofs.lemmas.Grind.{common_steps}
-use Rattle.gv_types.specs.Memory.{zero_words, length-zero_words, half_of}
+use Rattle.gv_types.specs.Memory.{zero_words, length-zero_words}
 use Rattle.gv_gpu.specs.Device.{Device, put, poked}
 use Rattle.gv_gpu.specs.Part.{Part, outside}
 use Rattle.gv_gpu.proofs.Changed.{outside-poked}
-use Rattle.gv_sctx.specs.Image.{page_dword}
 use Rattle.gv_sring.specs.Packing.{packed, packed_into, words_in, HoldsPart}
 
 put-same : {A : Type 0} (f : ℕ → A) (k : ℕ) (v : A) → put f k v k ≡ v

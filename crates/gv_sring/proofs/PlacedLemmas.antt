@@ -5,7 +5,7 @@ use Rattle.std.proofs.lemmas.List.{append-nil, map-append, drop_at}
 use Rattle.gv_cmd.specs.Command.{decoded}
 use Rattle.gv_cmd.specs.declared.command.Unlisted.{Unlisted}
 use Rattle.gv_cmd.proofs.Lengths.{decoded-command, IsCommand-length}
-use Rattle.gv_scan.specs.Layout.{IsCopy, AreCopies, placed}
+use Rattle.gv_scan.specs.Layout.{AreCopies, placed}
 use Rattle.gv_scan.proofs.Placing.{length-all}
 use Rattle.gv_scan.proofs.Steps.{concat-append}
 use Rattle.gv_sring.specs.Packing.{ArePlaced, BeginsWithCopy}

@@ -1,5 +1,5 @@
 -- An engine's reads of the window, and that pages of dwords are read as these dwords.
-use Rattle.std.proofs.Common.{◌≡◌, ◌≢◌, ℕ, ◌+◌, ◌-◌, ◌*◌, ◌/◌, ◌%◌, ◌^◌, ◌<◌, ◌≤◌, Bool, true, false, cond, eqb, ltb, List, [], ◌∷◌, length, get_or, Option, None, Some, is_some, refl, ap, sym, subst, ◌∙◌, arith}
+use Rattle.std.proofs.Common.{◌≡◌, ◌≢◌, ℕ, ◌+◌, ◌*◌, ◌/◌, ◌%◌, ◌^◌, ◌<◌, ◌≤◌, Bool, true, cond, eqb, ltb, List, [], ◌∷◌, length, get_or, Option, None, Some, is_some, refl, ap, sym, ◌∙◌, arith}
 use Rattle.std.specs.Int.{from_le_bytes, w32}
 use Rattle.std.proofs.lemmas.Bool.Decides.{nat_tests}
 use Rattle.gv_types.specs.Memory.{half_of}
@@ -8,10 +8,9 @@ use Rattle.gv_gpu.specs.Device.{Device}
 use Rattle.gv_gpu.specs.Part.{is_in_windows}
 use Rattle.gv_gpu.specs.Physical.{page_of, read_page, word_in, byte_at, operand_at, dword_at}
 use Rattle.gv_sctx.specs.Context.{shadow_label, HasImage}
-use Rattle.gv_sctx.specs.Image.{page_dword}
 use Rattle.gv_sring.specs.Copy.{Shown, HasCopy}
 use Rattle.gv_sring.specs.Packing.{HoldsPart, HoldsParts, count_of}
-use Rattle.gv_sring.specs.Window.{Window, first_of, slot_of, flags_of, page_at, ring_pages, most_pages, Shows, descriptor_at}
+use Rattle.gv_sring.specs.Window.{Window, first_of, slot_of, flags_of, page_at, ring_pages, Shows, descriptor_at}
 use Rattle.gv_sring.proofs.Slots.{in-windows}
 
 -- ---- the read of an aligned dword, by its page

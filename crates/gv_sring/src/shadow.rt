@@ -34,7 +34,8 @@ impl Model for Shadow {
 impl Shadow {
     /// The host page of the image's second page, which holds the register state.
     pub fn image(&self) -> u64
-        ensures { result ≡ page_at self.now 1 }
+        ensures page { result ≡ page_at self.now 1 }
+        ensures there { 1 < length self.now.pages }
     {
         self.pages.page(1)
     }

@@ -1,8 +1,8 @@
-use Rattle.std.proofs.Common.{List, ◌≡◌, ℕ, ◌+◌, ◌*◌, ◌/◌, ◌^◌, ◌<◌, ◌≤◌, get_or, sym, ap, subst, ◌∙◌, arith, ⊎_elim, min}
+use Rattle.std.proofs.Common.{List, ◌≡◌, ℕ, ◌+◌, ◌*◌, ◌/◌, ◌^◌, ◌<◌, get_or, sym, ap, subst, ◌∙◌, arith, ⊎_elim, min}
 use Rattle.std.specs.Prelude.{IsSome}
 use Rattle.std.proofs.lemmas.Bool.{cases_lt, cases_eq}
 use Rattle.gv_gpu.specs.Device.{Device, poked}
-use Rattle.gv_sring.specs.Packing.{packed, packed_into, words_in, HoldsPart}
+use Rattle.gv_sring.specs.Packing.{packed_into, words_in, HoldsPart}
 use Rattle.gv_sring.proofs.Packed.{packed-none, packed-more, packed-holds}
 use Rattle.gv_sring.proofs.pack.pack.Goals as goal
 

@@ -1,9 +1,9 @@
-use Rattle.std.proofs.Common.{◌≡◌, ◌+◌, ◌-◌, ◌≤◌, List, ◌∷◌, ℕ, Ok, take, drop, length, length-drop, sym, ap, subst, ◌∙◌, arith}
+use Rattle.std.proofs.Common.{◌≡◌, ◌+◌, List, ◌∷◌, ℕ, drop, length, sym, ap, subst, ◌∙◌}
 use Rattle.std.specs.List.{concat}
 use Rattle.std.proofs.lemmas.List.{take_rest}
 use Rattle.gv_cmd.specs.Command.{decoded}
 use Rattle.gv_scan.specs.Layout.{IsCopy, AreCopies}
-use Rattle.gv_sring.specs.Packing.{ArePlaced, BeginsWithCopy}
+use Rattle.gv_sring.specs.Packing.{BeginsWithCopy}
 use Rattle.gv_sring.proofs.PlacedLemmas.{HalfPlaced, front, placed-on, placed-all, placed-length, same-front, half-within}
 use Rattle.gv_sring.proofs.place.place.Goals as goal
 

@@ -1,5 +1,4 @@
 use Rattle.std.proofs.Common.{◌≡◌, ℕ, ◌+◌, ◌*◌, ◌<◌, List, length, ap, sym, subst, ◌∙◌}
-use Rattle.gv_gpu.specs.Part.{first_of_window}
 use Rattle.gv_sring.specs.Packing.{ArePlaced}
 use Rattle.gv_sring.specs.Window.{Window, batches_address}
 use Rattle.gv_sring.proofs.Built.{built-copied}

@@ -1,4 +1,4 @@
-use Rattle.std.proofs.Common.{◌≡◌, ℕ, [], None, cond, get_or, ap, subst, ◌∙◌}
+use Rattle.std.proofs.Common.{◌≡◌, [], None, cond, get_or, ap, subst, ◌∙◌}
 use Rattle.gv_sring.specs.Window.{Window}
 use Rattle.gv_sring.proofs.shadow.drop_all.Given.{Over}
 use Rattle.gv_gpu.specs.Device.{Device}

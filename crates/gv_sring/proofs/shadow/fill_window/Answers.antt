@@ -1,4 +1,4 @@
-use Rattle.std.proofs.Common.{◌≡◌, ℕ, ◌+◌, ◌<◌, ◌≤◌, [], Result, Ok, Err, length, refl, ap, sym, subst, ◌∙◌, arith}
+use Rattle.std.proofs.Common.{◌≡◌, ◌+◌, [], Result, Ok, Err, length, ap, subst, arith}
 use Rattle.std.specs.Prelude.{OnOk}
 use Rattle.gv_sring.specs.Packing.{HoldsPart, HoldsParts, count_of}
 use Rattle.gv_sring.specs.Window.{Grows, page_at}

@@ -1,9 +1,8 @@
-use Rattle.std.proofs.Common.{◌≡◌, ℕ, ◌+◌, ◌-◌, ◌<◌, ◌≤◌, List, ◌∷◌, ◌++◌, [], length, refl, ap, sym, subst, ◌∙◌, arith}
+use Rattle.std.proofs.Common.{◌≡◌, ◌+◌, ◌≤◌, ◌∷◌, ◌++◌, [], length, ap, sym, subst, ◌∙◌, arith}
 use Rattle.gv_gpu.specs.Device.{Device, released, with_global}
-use Rattle.gv_gpu.specs.Part.{outside, window_part, first_of_window}
+use Rattle.gv_gpu.specs.Part.{outside, window_part}
 use Rattle.gv_sring.specs.Window.{Window, Shows, first_of, slot_of}
 use Rattle.gv_sring.proofs.Windows.{longer, shows-dropped, dropped-outside}
-use Rattle.gv_sring.proofs.pages.Pages.drop_all.Given.{Over}
 use Rattle.gv_sring.proofs.pages.Pages.drop_all.Goals as goal
 
 pub pages-preserved : goal.pages-preserved
