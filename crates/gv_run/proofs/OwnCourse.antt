@@ -36,9 +36,10 @@ numbered-input m input numbered g h =
 -- All replies name the guests that the inputs went to.
 pub all-named : (m : Machine) (inputs : List Input) → IsNumbered m → AllByRecursion (NamesBelow (length m)) inputs → AllByRecursion NamesOwner (play input_course m inputs).came
 all-named m [] numbered named = tt
-all-named m (input ∷ inputs) numbered named =
-    (device-names (device_at m (whose input)) input (numbered (whose input) named.0.0),
-    all-named (input_course m input).left inputs (numbered-input m input numbered) (subst (λ n. AllByRecursion (NamesBelow n) inputs) (sym (length-input m input)) named.1))
+all-named m (input ∷ inputs) numbered named = (
+  device-names (device_at m (whose input)) input (numbered (whose input) named.0.0),
+  all-named (input_course m input).left inputs (numbered-input m input numbered) (subst (λ n. AllByRecursion (NamesBelow n) inputs) (sym (length-input m input)) named.1),
+)
 
 module _ (g : ℕ) where
   abbrev pub own : List Input → List Input

@@ -256,7 +256,13 @@ impl Vgpu {
     }
 
     // A write of the register range. Where an interrupt is injected, it answers IIR of its group.
-    fn write_range<G: Gpu>(&mut self, gpu: &mut G, width: Width, offset: u64, value: u64) -> Option<u32>
+    fn write_range<G: Gpu>(
+        &mut self,
+        gpu: &mut G,
+        width: Width,
+        offset: u64,
+        value: u64,
+    ) -> Option<u32>
         requires holds { HoldsTables (G.state gpu.old) self.old }
         requires below { offset < 0x1000000 }
         requires fits { value ≤ all_ones width }

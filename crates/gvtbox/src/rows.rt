@@ -2,9 +2,9 @@
 //! hand.
 ghost use Rattle.std.specs.Prelude.{◌<◌};
 
-use gv_run::{Status, mediate};
 use gv_engine::SoftGpu;
 use gv_outside::{MemorySink, MemorySource};
+use gv_run::{Status, mediate};
 use std::alloc::Global;
 use std::test::Fail;
 

@@ -18,7 +18,6 @@ loop-bytes-init g c =
       numbered = omega arith;
     }
 
-
 pub returns-in_default-accepted-clause-done : goal.returns-in_default-accepted-clause-done
 returns-in_default-accepted-clause-done g c =
     let run = c.loop-bytes.run in

@@ -39,7 +39,6 @@ returns-clause-pages g c =
     let machine : machine_in e first_owner guests ≡ (course_of [] all).left = ran.done.machine ∙ ap (λ (m : Machine). (course_of m all).left) none in
     subst (Keeps e) machine (keeps-ties e first_owner guests ran.agrees.ties)
 
-
 pub returns-clause-ran : goal.returns-clause-ran
 returns-clause-ran g c =
     let all = script_in c.args.whole c.args.text.now in

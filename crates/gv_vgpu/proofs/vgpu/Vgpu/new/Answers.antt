@@ -25,12 +25,12 @@ returns-clause-holds g c =
     let own = sym (ap (λ (t : Table). t.ranges) zero) in
     λ here idle. record {
       tables = record {
-      stands = made.stands;
-      frames = made.frames ∙ sym (ap (λ (t : Table). t.frames) zero);
-      mirrors = subst (λ (t : Table). Mirrors e t c.in_ok-memory.memory) (sym zero) (mirrors-zero e ranges c.args.frames c.in_ok-memory.memory absent);
-      parts = subst InParts own c.requires.parts;
-      number = c.new-3.ensures.guest ∙ sym made.guest;
-      ranges = c.new-3.ensures.ranges ∙ own;
+        stands = made.stands;
+        frames = made.frames ∙ sym (ap (λ (t : Table). t.frames) zero);
+        mirrors = subst (λ (t : Table). Mirrors e t c.in_ok-memory.memory) (sym zero) (mirrors-zero e ranges c.args.frames c.in_ok-memory.memory absent);
+        parts = subst InParts own c.requires.parts;
+        number = c.new-3.ensures.guest ∙ sym made.guest;
+        ranges = c.new-3.ensures.ranges ∙ own;
       };
       idle = idle-outside (frames_part guest) d e (λ k. refl) made.outside here idle;
     }
