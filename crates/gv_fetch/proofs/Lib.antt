@@ -1,0 +1,9 @@
+pub mod Reading
+pub mod Readdressed
+pub mod Forms
+pub mod Ends
+pub mod Moving
+pub mod Owned
+pub mod Depth
+pub mod Fetched
+mod Examples
