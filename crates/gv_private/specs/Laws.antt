@@ -1,0 +1,100 @@
+-- What holds of every private device, whatever its guest does.
+use Rattle.std.specs.Prelude.{ℕ, ◌+◌, ◌/◌, ◌%◌, ◌^◌, ◌<◌, ◌≡◌, Bool, true, false, ◌||◌, ◌&&◌, ◌==◌, List, length, Option, None, Some}
+use Rattle.gv_types.specs.declared.event.Event.{Event}
+use Rattle.gv_types.specs.declared.event.Event.TheVariants.{Write, Turn, Reset}
+use Rattle.gv_types.specs.declared.event.Place.{Place}
+use Rattle.gv_types.specs.declared.event.Place.TheVariants.{Registers}
+use Rattle.gv_types.specs.declared.event.Width.{Width}
+use Rattle.gv_types.specs.declared.event.Width.TheVariants.{Four, Eight}
+use Rattle.gv_types.specs.declared.ranges.Ranges.{Ranges}
+use Rattle.gv_types.specs.declared.reply.Outcome.{Outcome}
+use Rattle.gv_types.specs.declared.reply.Outcome.TheVariants.{Waited, Idle}
+use Rattle.gv_regs.specs.Table.{target_at, engines_reset}
+use Rattle.gv_regs.specs.declared.effect.Target.{Target}
+use Rattle.gv_regs.specs.declared.effect.Target.TheVariants.{EngineReset}
+use Rattle.gv_entry.specs.SameTables.{has, SameMeaning}
+use Rattle.gv_private.specs.Device.{PrivateDevice, Working, new_device, failed, quietly}
+use Rattle.gv_private.specs.Inputs.{answer}
+use Rattle.gv_private.specs.Registers.{is_named}
+use Rattle.gv_private.specs.Turn.{turned, turned_as}
+
+-- ---- turns that change nothing
+
+abbrev pub is_still : Outcome → Bool
+is_still Waited = true
+is_still Idle = true
+is_still outcome = false
+
+-- A turn that waits or is idle changes nothing, tells nothing and runs nothing.
+abbrev pub StillTurnsChangeNothing : Type 0
+StillTurnsChangeNothing = (p : PrivateDevice) (engine : ℕ) → is_still (turned p engine).outcome ≡ true → turned p engine ≡ turned_as (turned p engine).outcome (quietly p)
+
+-- ---- what stays
+
+-- the same guest's, with as many frames and the same ranges
+pub record SameGuest (p q : PrivateDevice) : Type 0 where
+  pub number : q.number ≡ p.number
+  pub frames : length q.memory ≡ length p.memory
+  pub ranges : q.ranges ≡ p.ranges
+
+-- Number, frames and ranges stay, whatever the guest does.
+abbrev pub GuestStays : Type 0
+GuestStays = (p : PrivateDevice) (event : Event) → SameGuest p (answer p event).left
+
+abbrev pub is_reset : Event → Bool
+is_reset (Reset guest) = true
+is_reset event = false
+
+-- In failsafe nothing but memory changes until a function reset, and nothing but a reset ends failsafe.
+abbrev pub OnlyMemoryChanges : Type 0
+OnlyMemoryChanges = (p : PrivateDevice) (event : Event) → p ≡ failed p → is_reset event ≡ false → (answer p event).left ≡ record p { memory = (answer p event).left.memory }
+
+abbrev pub FailsafeStays : Type 0
+FailsafeStays = (p : PrivateDevice) (event : Event) → p ≡ failed p → is_reset event ≡ false → (answer p event).left ≡ failed (answer p event).left
+
+-- ---- elements at work
+
+abbrev pub is_engine_reset : Target → Bool
+is_engine_reset EngineReset = true
+is_engine_reset target = false
+
+-- a dword that is written there resets the engine
+abbrev pub dword_resets : ℕ → ℕ → ℕ → Bool
+dword_resets engine offset value = is_engine_reset (target_at offset) && is_named (engines_reset value) engine
+
+abbrev pub write_resets : ℕ → Place → Width → ℕ → ℕ → Bool
+write_resets engine Registers Four offset value = dword_resets engine offset value
+write_resets engine Registers Eight offset value = dword_resets engine offset (value % 2 ^ 32) || dword_resets engine (offset + 4) (value / 2 ^ 32)
+write_resets engine place width offset value = false
+
+-- an engine's own turn, a function reset, or a write that resets the engine
+abbrev pub concerns : ℕ → Event → Bool
+concerns engine (Turn other) = other.0 == engine
+concerns engine (Reset guest) = true
+concerns engine (Write guest place width offset value) = write_resets engine place width offset value
+concerns engine event = false
+
+-- What is left of an element at work is changed by nothing but its own turns, resets and failsafe: no write to its
+-- ring, to a fetched batch or to its context does.
+abbrev pub ElementStays : Type 0
+ElementStays =
+    (p : PrivateDevice) (event : Event) (engine : ℕ) → concerns engine event ≡ false → (answer p event).left.failsafe ≡ false
+    → ((answer p event).left.engines engine).element ≡ (p.engines engine).element
+
+-- each element at work has a root that is there
+abbrev pub HasRoots : PrivateDevice → Type 0
+HasRoots p = (engine : ℕ) (w : Working) → engine < 4 → (p.engines engine).element ≡ Some w → has p.roots w.root ≡ true
+
+-- A root of an element at work is a root: at first, and after each event.
+abbrev pub FirstHasRoots : Type 0
+FirstHasRoots = (number frames : ℕ) (ranges : Ranges) → HasRoots (new_device number frames ranges)
+
+abbrev pub RootsStay : Type 0
+RootsStay = (p : PrivateDevice) (event : Event) → HasRoots p → HasRoots (answer p event).left
+
+-- ---- tables
+
+-- A turn changes no frame that is a live table: the live tables, what they map and grant, and all else that follows
+-- from them are as before.
+abbrev pub TurnsKeepTables : Type 0
+TurnsKeepTables = (p : PrivateDevice) (engine : ℕ) → SameMeaning p.memory (turned p engine).left.device.memory p.roots

@@ -1,0 +1,9 @@
+//! A guest's private device, whole, in words: what one guest sees, as if nothing were shared. It is
+//! definitions, and their laws as contracts of functions with nothing to run.
+//!
+//! It knows no host page, no shadow table, no pin, no copy, no window and no switch of owners.
+#![tactic(auto)]
+
+mod laws;
+
+pub use laws::still_turns_change_nothing;
