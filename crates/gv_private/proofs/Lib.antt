@@ -1,3 +1,8 @@
 pub mod Granted
 pub mod Effects
+pub mod Keeps
 pub mod Still
+pub mod Stays
+pub mod Failsafe
+pub mod Elements
+pub mod Tables

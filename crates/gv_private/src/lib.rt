@@ -6,4 +6,7 @@
 
 mod laws;
 
-pub use laws::still_turns_change_nothing;
+pub use laws::{
+    element_stays, failsafe_stays, guest_stays, roots_stay, still_turns_change_nothing,
+    turns_keep_tables,
+};
