@@ -6,3 +6,4 @@ pub mod Stays
 pub mod Failsafe
 pub mod Elements
 pub mod Tables
+mod Examples
