@@ -30,7 +30,7 @@ reached-memory start s m same before = record {
 reached-general : (start s : PrivateSpace) (general : ℕ → ℕ) → Reached start s → Reached start (record s { general = general })
 reached-general start s general before = record { rest = ap (λ (t : PrivateSpace). record t { general = general }) before.rest; tables = before.tables }
 
-writes-free : (s : PrivateSpace) (global : Bool) (at : ℕ) → IsFree s.memory s.roots (writes s global at)
+pub writes-free : (s : PrivateSpace) (global : Bool) (at : ℕ) → IsFree s.memory s.roots (writes s global at)
 writes-free s true at = page-free s.ranges s.entries s.memory s.roots _
 writes-free s false at = write-free s.memory s.roots s.root at
 
@@ -49,7 +49,7 @@ bytes-reached start s at bytes zero before = before
 bytes-reached start s at bytes (suc n) before = byte-reached start (bytes_written s at bytes n) (at + n) (bytes n) (bytes-reached start s at bytes n before)
 
 -- every access may be made
-May : Access → Type 0
+pub May : Access → Type 0
 May a = Unit {0}
 
 any_may : (a : Access) → May a
@@ -60,7 +60,7 @@ each_may : (xs : List Access) → EachAccess May xs
 each_may [] = tt
 each_may (a ∷ xs) = (any_may a, each_may xs)
 
-may_do : (engine : ℕ) (privileged : Bool) (kind : Option Kind) → MayDo May engine privileged kind
+pub may_do : (engine : ℕ) (privileged : Bool) (kind : Option Kind) → MayDo May engine privileged kind
 may_do engine privileged None = tt
 may_do engine privileged (Some kind) = each_may _
 

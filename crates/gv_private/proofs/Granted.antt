@@ -48,7 +48,7 @@ write-free m roots root at = mapped-free m roots (walk m root at)
 
 -- ---- writes
 
-frame_at : (frame at : ℕ) → (frame * 4096 + at % 4096) / 8 / 512 ≡ frame
+pub frame_at : (frame at : ℕ) → (frame * 4096 + at % 4096) / 8 / 512 ≡ frame
 frame_at frame at = omega arith
 
 pub tables-same : (m : Memory) (roots : List ℕ) → SameTables m m roots

@@ -6,4 +6,5 @@ pub mod Stays
 pub mod Failsafe
 pub mod Elements
 pub mod Tables
+pub mod Untouched
 mod Examples

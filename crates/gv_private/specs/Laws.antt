@@ -1,5 +1,5 @@
 -- What holds of every private device, whatever its guest does.
-use Rattle.std.specs.Prelude.{ℕ, ◌+◌, ◌/◌, ◌%◌, ◌^◌, ◌<◌, ◌≡◌, Bool, true, false, ◌||◌, ◌&&◌, ◌==◌, List, length, Option, None, Some}
+use Rattle.std.specs.Prelude.{ℕ, ◌+◌, ◌/◌, ◌%◌, ◌^◌, ◌<◌, ◌≡◌, Bool, true, false, ◌||◌, ◌&&◌, ◌==◌, List, length, slice_set, ◌≢◌, Option, None, Some}
 use Rattle.gv_types.specs.declared.event.Event.{Event}
 use Rattle.gv_types.specs.declared.event.Event.TheVariants.{Write, Turn, Reset}
 use Rattle.gv_types.specs.declared.event.Place.{Place}
@@ -12,11 +12,14 @@ use Rattle.gv_types.specs.declared.reply.Outcome.TheVariants.{Waited, Idle}
 use Rattle.gv_regs.specs.Table.{target_at, engines_reset}
 use Rattle.gv_regs.specs.declared.effect.Target.{Target}
 use Rattle.gv_regs.specs.declared.effect.Target.TheVariants.{EngineReset}
+use Rattle.gv_entry.specs.Grants.{read_grant}
 use Rattle.gv_entry.specs.SameTables.{has, SameMeaning}
+use Rattle.gv_entry.specs.Tables.{is_guarded}
 use Rattle.gv_private.specs.Device.{PrivateDevice, Working, new_device, failed, quietly}
+use Rattle.gv_private.specs.Grants.{page_grant}
 use Rattle.gv_private.specs.Inputs.{answer}
 use Rattle.gv_private.specs.Registers.{is_named}
-use Rattle.gv_private.specs.Turn.{turned, turned_as}
+use Rattle.gv_private.specs.Turn.{Turned, turned, turned_as}
 
 -- ---- turns that change nothing
 
@@ -98,3 +101,30 @@ RootsStay = (p : PrivateDevice) (event : Event) → HasRoots p → HasRoots (ans
 -- from them are as before.
 abbrev pub TurnsKeepTables : Type 0
 TurnsKeepTables = (p : PrivateDevice) (engine : ℕ) → SameMeaning p.memory (turned p engine).left.device.memory p.roots
+
+-- ---- grants
+
+-- the device, and what a turn leaves, with these words in a frame
+abbrev pub with_frame : PrivateDevice → ℕ → List ℕ → PrivateDevice
+with_frame p frame words = record p { memory = slice_set p.memory frame words }
+
+abbrev pub turned_with_frame : Turned → ℕ → List ℕ → Turned
+turned_with_frame t frame words = record t { left = record (t.left) { device = with_frame t.left.device frame words } }
+
+-- A frame that no page of the global table grants, nor any address of the root of an element at work, and that is no
+-- live table, since walks read these.
+pub record IsUngranted (p : PrivateDevice) (w : Working) (frame : ℕ) : Type 0 where
+  pub table : is_guarded p.memory p.roots frame ≡ false
+  pub global : (page : ℕ) → page_grant p page ≢ Some frame
+  pub process : (at : ℕ) → read_grant p.memory w.root at ≢ Some frame
+
+-- A turn of an element at work neither reads nor writes such a frame: whatever its words are, the turn does the same,
+-- and leaves them.
+abbrev pub UngrantedIsUntouched : Type 0
+UngrantedIsUntouched =
+    (p : PrivateDevice) (engine frame : ℕ) (words : List ℕ) (w : Working) → (p.engines engine).element ≡ Some w → has p.roots w.root ≡ true → IsUngranted p w frame
+    → turned (with_frame p frame words) engine ≡ turned_with_frame (turned p engine) frame words
+
+-- A turn of an engine without an element at work, which loads one or is idle, writes no memory at all.
+abbrev pub LoadsWriteNothing : Type 0
+LoadsWriteNothing = (p : PrivateDevice) (engine : ℕ) → (p.engines engine).element ≡ None → (turned p engine).left.device.memory ≡ p.memory

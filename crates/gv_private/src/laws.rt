@@ -1,4 +1,4 @@
-ghost use Rattle.gv_private.specs.Laws.{StillTurnsChangeNothing, GuestStays, OnlyMemoryChanges, FailsafeStays, ElementStays, FirstHasRoots, RootsStay, TurnsKeepTables};
+ghost use Rattle.gv_private.specs.Laws.{StillTurnsChangeNothing, GuestStays, OnlyMemoryChanges, FailsafeStays, ElementStays, FirstHasRoots, RootsStay, TurnsKeepTables, UngrantedIsUntouched, LoadsWriteNothing};
 
 /// A turn that waits or is idle changes nothing of the device, tells nothing and runs nothing. Each
 /// function here does nothing: its clause is the law.
@@ -33,4 +33,11 @@ pub fn roots_stay()
 /// A turn changes no live table, nor anything that follows from the tables.
 pub fn turns_keep_tables()
     ensures { TurnsKeepTables }
+{}
+
+/// A turn of an element at work neither reads nor writes a frame that no grant gives, and a turn that
+/// loads one writes nothing.
+pub fn ungranted_is_untouched()
+    ensures frames { UngrantedIsUntouched }
+    ensures loads { LoadsWriteNothing }
 {}

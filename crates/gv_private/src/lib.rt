@@ -8,5 +8,5 @@ mod laws;
 
 pub use laws::{
     element_stays, failsafe_stays, guest_stays, roots_stay, still_turns_change_nothing,
-    turns_keep_tables,
+    turns_keep_tables, ungranted_is_untouched,
 };
