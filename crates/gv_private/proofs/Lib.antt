@@ -7,4 +7,6 @@ pub mod Failsafe
 pub mod Elements
 pub mod Tables
 pub mod Untouched
+pub mod Unnamed
+pub mod Told
 mod Examples

@@ -15,15 +15,18 @@ use Rattle.gv_entry.specs.SameTables.{SameTables}
 use Rattle.gv_entry.proofs.SameTables.{same_tables_chain, tables_decide}
 use Rattle.gv_fetch.specs.Left.{is_done, is_privileged, stands_of}
 use Rattle.std.specs.Prelude.{IfOk}
+use Rattle.gv_entry.specs.Ranges.{is_in}
+use Rattle.gv_types.specs.declared.event.Width.{Width}
+use Rattle.gv_private.specs.Access.{aperture_frame, aperture_written}
 use Rattle.gv_private.specs.Device.{PrivateDevice, Working, context_page, quietly, fails}
 use Rattle.gv_private.specs.Grants.{page_grant, frame_written}
-use Rattle.gv_private.specs.Laws.{TurnsKeepTables}
+use Rattle.gv_private.specs.Laws.{TurnsKeepTables, EventsKeepTables, AperturesKeepTables}
 use Rattle.gv_private.specs.Load.{loaded}
 use Rattle.gv_private.specs.Space.{PrivateSpace, space_of}
 use Rattle.gv_private.specs.Status.{events_given}
 use Rattle.gv_private.specs.Turn.{Turned, turned_as, front_words, front_effect, ran_after, run_by, command_by, tail_written, without_front, finished, load_by, next_by, turned_by, turned}
 use Rattle.gv_private.proofs.Effects.{Reached, effect-reached}
-use Rattle.gv_private.proofs.Granted.{page-free, tables-same, frame_written-tables}
+use Rattle.gv_private.proofs.Granted.{IsFree, page-free, tables-same, frame_written-tables}
 use Rattle.gv_private.proofs.Keeps.{KeptByEvents, events-keep, bits-keep, loaded-good}
 
 -- the tables are the same, and so are the roots
@@ -98,3 +101,17 @@ turn-tables p engine = either p p.failsafe (turned_as outcomes.Idle (quietly p))
 
 pub turns_keep_tables : TurnsKeepTables
 turns_keep_tables p engine = tables_decide p.memory (turned p engine).left.device.memory p.roots (turn-tables p engine)
+
+pub events_keep_tables : EventsKeepTables
+events_keep_tables p engine events =
+    tables_decide p.memory (events_given p engine events).device.memory p.roots
+    (events-keep (Keeps p) (kept p) p engine events (record { tables = tables-same p.memory p.roots; roots = refl })).tables
+
+aperture-free : (p : PrivateDevice) (page : ℕ) (b : Bool) → IsFree p.memory p.roots (cond b (page_grant p page) None)
+aperture-free p page true = page-free p.ranges p.entries p.memory p.roots page
+aperture-free p page false = tt
+
+pub apertures_keep_tables : AperturesKeepTables
+apertures_keep_tables p width at value =
+    tables_decide p.memory (aperture_written p width at value).memory p.roots
+    (frame_written-tables p.memory p.roots width at value (aperture_frame p (at / 4096)) (aperture-free p (at / 4096) (is_in p.ranges.low (at / 4096))))

@@ -61,7 +61,7 @@ with_word_other m frame words n value other =
 in_other : (frame h at : ℕ) → Some h ≢ Some frame → (h * 4096 + at % 4096) / 8 / 512 ≢ frame
 in_other frame h at other = λ same. other (ap Some (sym (frame_at h at) ∙ same))
 
-read_other : (m : Memory) (frame : ℕ) (words : List ℕ) (width : Width) (at : ℕ) (grant : Option ℕ) → grant ≢ Some frame → frame_read (set m frame words) width at grant ≡ frame_read m width at grant
+pub read_other : (m : Memory) (frame : ℕ) (words : List ℕ) (width : Width) (at : ℕ) (grant : Option ℕ) → grant ≢ Some frame → frame_read (set m frame words) width at grant ≡ frame_read m width at grant
 read_other m frame words width at None other = refl
 read_other m frame words Four at (Some h) other =
     let a = h * 4096 + at % 4096 in ap (λ u. half_of u a) (word_other m frame words (a / 8) (in_other frame h at other))
@@ -77,7 +77,7 @@ write_other m frame words Eight at value (Some h) other = with_word_other m fram
 
 -- ---- grants
 
-page_same : (ranges : Ranges) (entries : List ℕ) (m n : Memory) (roots : List ℕ) (page : ℕ) → SameTables m n roots → page_grant_in ranges entries n roots page ≡ page_grant_in ranges entries m roots page
+pub page_same : (ranges : Ranges) (entries : List ℕ) (m n : Memory) (roots : List ℕ) (page : ℕ) → SameTables m n roots → page_grant_in ranges entries n roots page ≡ page_grant_in ranges entries m roots page
 page_same ranges entries m n roots page same =
     let meaning = tables_decide m n roots same in
     λ i. global_grant ranges (same.frames i) (meaning.guarded i) (entry_of ranges entries) page

@@ -1,5 +1,5 @@
 -- What holds of every private device, whatever its guest does.
-use Rattle.std.specs.Prelude.{ℕ, ◌+◌, ◌/◌, ◌%◌, ◌^◌, ◌<◌, ◌≡◌, Bool, true, false, ◌||◌, ◌&&◌, ◌==◌, List, length, slice_set, ◌≢◌, Option, None, Some}
+use Rattle.std.specs.Prelude.{ℕ, ◌+◌, ◌/◌, ◌%◌, ◌^◌, ◌<◌, ◌≡◌, Bool, true, false, ◌||◌, ◌&&◌, ◌==◌, List, length, slice_set, ◌≢◌, Option, None, Some, MatchOption}
 use Rattle.gv_types.specs.declared.event.Event.{Event}
 use Rattle.gv_types.specs.declared.event.Event.TheVariants.{Write, Turn, Reset}
 use Rattle.gv_types.specs.declared.event.Place.{Place}
@@ -12,13 +12,18 @@ use Rattle.gv_types.specs.declared.reply.Outcome.TheVariants.{Waited, Idle}
 use Rattle.gv_regs.specs.Table.{target_at, engines_reset}
 use Rattle.gv_regs.specs.declared.effect.Target.{Target}
 use Rattle.gv_regs.specs.declared.effect.Target.TheVariants.{EngineReset}
-use Rattle.gv_entry.specs.Grants.{read_grant}
+use Rattle.gv_csb.specs.declared.status.Status.{Status}
+use Rattle.gv_entry.specs.Global.{entry_of}
+use Rattle.gv_entry.specs.Grants.{global_grant, nothing_guarded, read_grant}
 use Rattle.gv_entry.specs.SameTables.{has, SameMeaning}
 use Rattle.gv_entry.specs.Tables.{is_guarded}
+use Rattle.gv_private.specs.Access.{aperture_written}
 use Rattle.gv_private.specs.Device.{PrivateDevice, Working, new_device, failed, quietly}
 use Rattle.gv_private.specs.Grants.{page_grant}
 use Rattle.gv_private.specs.Inputs.{answer}
 use Rattle.gv_private.specs.Registers.{is_named}
+use Rattle.gv_private.specs.Roots.{with_root}
+use Rattle.gv_private.specs.Status.{events_given}
 use Rattle.gv_private.specs.Turn.{Turned, turned, turned_as}
 
 -- ---- turns that change nothing
@@ -54,6 +59,13 @@ OnlyMemoryChanges = (p : PrivateDevice) (event : Event) → p ≡ failed p → i
 
 abbrev pub FailsafeStays : Type 0
 FailsafeStays = (p : PrivateDevice) (event : Event) → p ≡ failed p → is_reset event ≡ false → (answer p event).left ≡ failed (answer p event).left
+
+-- The guest is told a reason exactly where it enters failsafe, and then it is as after a function reset, in failsafe.
+-- Any other event but a reset leaves failsafe as it was.
+abbrev pub FailsafeIsTold : Type 0
+FailsafeIsTold =
+    (p : PrivateDevice) (event : Event) → is_reset event ≡ false
+    → MatchOption (answer p event).reply.failsafe ((answer p event).left.failsafe ≡ p.failsafe) (λ reason. (answer p event).left ≡ failed (answer p event).left)
 
 -- ---- elements at work
 
@@ -102,6 +114,13 @@ RootsStay = (p : PrivateDevice) (event : Event) → HasRoots p → HasRoots (ans
 abbrev pub TurnsKeepTables : Type 0
 TurnsKeepTables = (p : PrivateDevice) (engine : ℕ) → SameMeaning p.memory (turned p engine).left.device.memory p.roots
 
+-- Status events, whose copies are written through the global table, change none either; nor do aperture writes.
+abbrev pub EventsKeepTables : Type 0
+EventsKeepTables = (p : PrivateDevice) (engine : ℕ) (events : List Status) → SameMeaning p.memory (events_given p engine events).device.memory p.roots
+
+abbrev pub AperturesKeepTables : Type 0
+AperturesKeepTables = (p : PrivateDevice) (width : Width) (at value : ℕ) → SameMeaning p.memory (aperture_written p width at value).memory p.roots
+
 -- ---- grants
 
 -- the device, and what a turn leaves, with these words in a frame
@@ -123,6 +142,22 @@ pub record IsUngranted (p : PrivateDevice) (w : Working) (frame : ℕ) : Type 0 
 abbrev pub UngrantedIsUntouched : Type 0
 UngrantedIsUntouched =
     (p : PrivateDevice) (engine frame : ℕ) (words : List ℕ) (w : Working) → (p.engines engine).element ≡ Some w → has p.roots w.root ≡ true → IsUngranted p w frame
+    → turned (with_frame p frame words) engine ≡ turned_with_frame (turned p engine) frame words
+
+-- the frame that a page's entry names is given to nobody who doesn't own the page
+abbrev pub named_by : PrivateDevice → ℕ → Option ℕ
+named_by p page = global_grant p.ranges (length p.memory) nothing_guarded (entry_of p.ranges p.entries) page
+
+-- A frame that no entry of an owned page names, and that is no live table, nor would be one with another root.
+pub record IsUnnamed (p : PrivateDevice) (frame : ℕ) : Type 0 where
+  pub table : is_guarded p.memory p.roots frame ≡ false
+  pub announced : (root : ℕ) → is_guarded p.memory (with_root p.roots root) frame ≡ false
+  pub global : (page : ℕ) → named_by p page ≢ Some frame
+
+-- A turn of an engine without an element at work neither reads nor writes such a frame.
+abbrev pub UnnamedIsUntouched : Type 0
+UnnamedIsUntouched =
+    (p : PrivateDevice) (engine frame : ℕ) (words : List ℕ) → (p.engines engine).element ≡ None → IsUnnamed p frame
     → turned (with_frame p frame words) engine ≡ turned_with_frame (turned p engine) frame words
 
 -- A turn of an engine without an element at work, which loads one or is idle, writes no memory at all.

@@ -1,4 +1,4 @@
-ghost use Rattle.gv_private.specs.Laws.{StillTurnsChangeNothing, GuestStays, OnlyMemoryChanges, FailsafeStays, ElementStays, FirstHasRoots, RootsStay, TurnsKeepTables, UngrantedIsUntouched, LoadsWriteNothing};
+ghost use Rattle.gv_private.specs.Laws.{StillTurnsChangeNothing, GuestStays, OnlyMemoryChanges, FailsafeStays, ElementStays, FirstHasRoots, RootsStay, TurnsKeepTables, EventsKeepTables, AperturesKeepTables, FailsafeIsTold, UngrantedIsUntouched, UnnamedIsUntouched, LoadsWriteNothing};
 
 /// A turn that waits or is idle changes nothing of the device, tells nothing and runs nothing. Each
 /// function here does nothing: its clause is the law.
@@ -19,6 +19,11 @@ pub fn failsafe_stays()
     ensures failed { FailsafeStays }
 {}
 
+/// A guest is told a reason exactly where it enters failsafe.
+pub fn failsafe_is_told()
+    ensures { FailsafeIsTold }
+{}
+
 /// What is left of an element at work is changed by nothing but its own turns, resets and failsafe.
 pub fn element_stays()
     ensures { ElementStays }
@@ -30,14 +35,18 @@ pub fn roots_stay()
     ensures after { RootsStay }
 {}
 
-/// A turn changes no live table, nor anything that follows from the tables.
+/// A turn, a status event and an aperture write change no live table, nor anything that follows from
+/// the tables.
 pub fn turns_keep_tables()
-    ensures { TurnsKeepTables }
+    ensures turns { TurnsKeepTables }
+    ensures events { EventsKeepTables }
+    ensures apertures { AperturesKeepTables }
 {}
 
-/// A turn of an element at work neither reads nor writes a frame that no grant gives, and a turn that
-/// loads one writes nothing.
+/// A turn of an element at work neither reads nor writes a frame that no grant gives. A turn that loads
+/// one writes nothing, and reads no frame that no owned entry names, but for tables.
 pub fn ungranted_is_untouched()
     ensures frames { UngrantedIsUntouched }
+    ensures unnamed { UnnamedIsUntouched }
     ensures loads { LoadsWriteNothing }
 {}
