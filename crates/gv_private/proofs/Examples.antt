@@ -1,19 +1,26 @@
 -- The definitions on one small device, worked out by hand: the global pages 0 to 4 map the frames 0 to 4; the context
 -- is at page 0, its ring at page 2, the status page is page 3; frame 8 is a root over the frames 9 to 11, whose pages
 -- 0, 1 and 2 are the frames 12, 13 and 14.
-use Rattle.std.proofs.Common.{◌≡◌, ℕ, ◌+◌, ◌*◌, ◌^◌, Bool, true, false, List, [], ◌∷◌, ◌++◌, Option, None, Some, Ok, Err, cond, eqb, replicate, refl}
+use Rattle.std.proofs.Common.{◌≡◌, ℕ, ◌*◌, ◌^◌, true, false, List, [], ◌∷◌, ◌++◌, Option, None, Some, cond, eqb, replicate, set, refl}
+use Rattle.gv_types.specs.declared.event.Place.TheVariants as places
+use Rattle.gv_types.specs.declared.event.Width.TheVariants.{Four, Eight}
+use Rattle.gv_types.specs.declared.reply.Answer.TheVariants.{Moved, Kept}
+use Rattle.gv_regs.specs.Table.{row_at}
 use Rattle.gv_types.specs.Memory.{Memory}
 use Rattle.gv_types.specs.declared.ranges.Ranges.{Ranges}
 use Rattle.gv_types.specs.declared.reply.Outcome.TheVariants as outcomes
 use Rattle.gv_types.specs.declared.reply.Reason.TheVariants.{Command, Range, Context, Entry}
 use Rattle.gv_cmd.specs.Table.{kind_of}
 use Rattle.gv_csb.specs.Slots.{reset_execlists}
-use Rattle.gv_csb.specs.Status.{idle_to_active, element_switch}
+use Rattle.gv_csb.specs.Status.{element_switch}
 use Rattle.gv_fetch.specs.Fetch.{dwords, owns_dwords, batch_items, ring_items, owns_pages}
 use Rattle.gv_fetch.specs.Items.{Items, none, command, batch}
-use Rattle.gv_fetch.specs.Left.{Fetched, begun}
-use Rattle.gv_irq.specs.Irq.{Interrupts, reset_irq, reset_group}
-use Rattle.gv_private.specs.Device.{Engine, PrivateDevice, Working, put, reset_engine, quietly, fails}
+use Rattle.gv_fetch.specs.Left.{Fetched, At, begun}
+use Rattle.gv_irq.specs.Irq.{Interrupts, reset_irq}
+use Rattle.gv_private.specs.Device.{Engine, PrivateDevice, Working, put, reset_engine, quietly, fails, failed}
+use Rattle.gv_private.specs.Access.{value_read, value_written}
+use Rattle.gv_private.specs.Grants.{move_answer}
+use Rattle.gv_private.specs.Space.{bytes_written}
 use Rattle.gv_private.specs.Status.{events_given}
 use Rattle.gv_private.specs.Submission.{list_submitted, port_written}
 use Rattle.gv_private.specs.Roots.{root_created, root_destroyed}
@@ -87,7 +94,7 @@ bad_context : turned tail_of_four 1 ≡ turned_as outcomes.Failed (fails tail_of
 unfolding dwords
 bad_context = refl
 
--- mode 1; a context whose second page isn't owned; a root that isn't in memory; a table with a bad entry
+-- mode 1; and a context whose second page isn't owned
 abbrev of_mode : PrivateDevice
 of_mode = device (memory (image 0 8) [] zeros [] []) [] 1 (listed (0x500000109 ∷ []) [])
 
@@ -99,9 +106,6 @@ of_page = device (memory (image 0 8) [] zeros [] []) [] 1 (listed (0x50000f119 �
 
 context_not_owned : turned of_page 1 ≡ turned_as outcomes.Failed (fails of_page Range)
 context_not_owned = refl
-
-abbrev bad_table : PrivateDevice
-bad_table = device (memory (image 0 8) [] zeros [] [] ++ empty ∷ []) [] 1 (listed (descriptor ∷ []) [])
 
 abbrev first_left : PrivateDevice → Option Working
 first_left p = ((turned p 1).left.device.engines 1).element
@@ -270,3 +274,175 @@ third_at_work =
 its_user_interrupt : (turned third_at_work 2).left.irq ≡ Some 0x101
 unfolding kind_of
 its_user_interrupt = refl
+
+-- ---- first turns of other engines and rings
+
+-- a ring that waits: e40c002 1 2800 0
+abbrev semaphore : PrivateDevice
+semaphore = device (memory (image 0 0x10) (0x10e40c002 ∷ 0x2800 ∷ []) zeros [] []) [] 1 (listed (descriptor ∷ []) [])
+
+a_wait_is_loaded : first_left semaphore ≡ Some (at_work (command (0xe40c002 ∷ 1 ∷ 0x2800 ∷ 0 ∷ []) none))
+unfolding owns_pages dwords owns_dwords batch_items ring_items kind_of
+a_wait_is_loaded = refl
+
+abbrev third_listed : PrivateDevice
+third_listed = device (memory (image 0 8) (0x1000000 ∷ []) zeros [] []) [] 2 (listed (descriptor ∷ []) [])
+
+third_is_loaded : ((turned third_listed 2).left.device.engines 2).element ≡ Some (record { root = 8; tail = 8; left = begun (command (0x1000000 ∷ []) (command (0 ∷ []) none)) })
+unfolding owns_pages dwords owns_dwords batch_items ring_items kind_of
+third_is_loaded = refl
+
+-- two roots are there; the ring goes to its tail and not further
+abbrev guarding : PrivateDevice
+guarding = device (memory (image 0 0x10) (0x10000002 ∷ 0x7700000000 ∷ 0x10000002 ∷ 0x8800000000 ∷ []) zeros [] (0 ∷ [])) (8 ∷ 12 ∷ []) 1 (listed (descriptor ∷ []) [])
+
+one_store_is_loaded : first_left guarding ≡ Some (at_work (command (0x10000002 ∷ 0 ∷ 0 ∷ 0x77 ∷ []) none))
+unfolding owns_pages dwords owns_dwords batch_items ring_items kind_of
+one_store_is_loaded = refl
+
+-- a context whose root isn't in memory, and one by whose root a live table has a bad entry
+abbrev root_at : ℕ → List ℕ → PrivateDevice
+root_at root entry = device (empty ∷ (0 ∷ 0 ∷ 0 ∷ 0x800000000 ∷ 0x200000000000 ∷ 0x100000000 ∷ replicate 19 0 ++ root * 2 ^ 44 ∷ []) ∷ entry ∷ []) [] 1 (listed (descriptor ∷ []) [])
+
+no_root : turned (root_at 3 []) 1 ≡ turned_as outcomes.Failed (fails (root_at 3 []) Entry)
+unfolding dwords
+no_root = refl
+
+bad_root : turned (root_at 2 (0x3001 ∷ [])) 1 ≡ turned_as outcomes.Failed (fails (root_at 2 (0x3001 ∷ [])) Entry)
+unfolding dwords
+bad_root = refl
+
+-- ---- live batches
+
+-- per-process address 0 is frame 12
+abbrev live : List ℕ → PrivateDevice
+live page = device (memory (image 0 0x10) [] zeros [] page) (8 ∷ []) 1 (busy (record (at_work rest) { left = record { ring = rest; first = Some (At 0); second = None } }))
+
+unlisted_in_a_live_batch : turned (live (0x7b000005 ∷ [])) 1 ≡ turned_as outcomes.Failed (fails (live (0x7b000005 ∷ [])) Command)
+unfolding dwords kind_of
+unlisted_in_a_live_batch = refl
+
+-- a global store to page 4 is skipped, and the batch goes on behind it
+skipped : first_left (live (0x400010400002 ∷ 0x1100000000 ∷ [])) ≡ Some (record (at_work rest) { left = record { ring = rest; first = Some (At 0x10); second = None } })
+unfolding dwords kind_of
+skipped = refl
+
+nothing_is_stored : (turned (live (0x400010400002 ∷ 0x1100000000 ∷ [])) 1).left.device.memory ≡ (live (0x400010400002 ∷ 0x1100000000 ∷ [])).memory
+unfolding dwords kind_of
+nothing_is_stored = refl
+
+-- ---- a row of three bytes from the per-process address 1
+
+abbrev fills : PrivateDevice
+fills = device (memory (image 0 0x10) [] zeros [] (0x1111111111111111 ∷ [])) (8 ∷ []) 1 (busy (at_work (command (0x54000005 ∷ 0xF00000 ∷ 0 ∷ 0x10003 ∷ 1 ∷ 0 ∷ 0xAB ∷ []) none)))
+
+a_row_is_filled : (turned fills 1).left.device.memory ≡ memory (image 0 0x10) [] zeros [] (0x11111111ABABAB11 ∷ [])
+unfolding kind_of bytes_written
+a_row_is_filled = refl
+
+-- ---- registers, by their offsets
+
+abbrev plain : PrivateDevice
+plain = device (memory (image 0 8) [] zeros [] []) (8 ∷ []) 1 (busy (at_work none))
+
+identity : value_read plain places.Registers Four 0x78000 ≡ 0x76544776
+unfolding row_at
+identity = refl
+
+nothing_in_failsafe : value_read (failed plain) places.Registers Four 0x78000 ≡ 0
+nothing_in_failsafe = refl
+
+memory_in_failsafe : value_read (failed plain) places.Memory Eight 0x1020 ≡ 0x200000000000
+memory_in_failsafe = refl
+
+-- ELSP takes the low dword of eight bytes: the dword behind it is absent
+one_write : ((value_written plain places.Registers Eight 0x22230 0x900000007).device.engines 1).writes ≡ 7 ∷ []
+unfolding row_at
+one_write = refl
+
+general_registers : value_read (value_written plain places.Registers Eight 0x22608 0x500000006).device places.Registers Eight 0x22608 ≡ 0x500000006
+unfolding row_at
+general_registers = refl
+
+abbrev ended_after : PrivateDevice
+ended_after = (turned ended 1).left.device
+
+status_pairs : value_read ended_after places.Registers Eight 0x22370 ≡ 0x500000018
+unfolding row_at
+status_pairs = refl
+
+the_pointer : value_read ended_after places.Registers Four 0x223a0 ≡ 1
+unfolding row_at
+the_pointer = refl
+
+-- bit 3 resets BCS, and bit 1 doesn't; roots stay
+a_reset_ends_it : ((value_written plain places.Registers Four 0x941c 8).device.engines 1).element ≡ None
+unfolding row_at
+a_reset_ends_it = refl
+
+roots_remain : (value_written plain places.Registers Four 0x941c 8).device.roots ≡ 8 ∷ []
+unfolding row_at
+roots_remain = refl
+
+another_reset_does_not : ((value_written plain places.Registers Four 0x941c 2).device.engines 1).element ≡ Some (at_work none)
+unfolding row_at
+another_reset_does_not = refl
+
+-- 4 creates the root that PDP0 names, here frame 12
+abbrev names_twelve : PrivateDevice
+names_twelve = record plain { registers = λ offset. cond (eqb offset 0x78838) 0xc000 0 }
+
+notify_creates : (value_written names_twelve places.Registers Four 0x78818 4).device.roots ≡ 8 ∷ 12 ∷ []
+unfolding row_at
+notify_creates = refl
+
+notify_does_not : (value_written names_twelve places.Registers Four 0x78818 6).device.roots ≡ 8 ∷ []
+unfolding row_at
+notify_does_not = refl
+
+-- ---- the global table and the aperture
+
+half_an_entry : (value_written plain places.Registers Four 0x80002c 7).device.entries ≡ 0x1 ∷ 0x1001 ∷ 0x2001 ∷ 0x3001 ∷ 0x4001 ∷ 0x700000000 ∷ replicate 10 0
+half_an_entry = refl
+
+through_the_aperture : value_read plain places.Aperture Eight 0x1020 ≡ 0x200000000000
+through_the_aperture = refl
+
+-- an entry that names the root grants nothing
+abbrev names_a_table : PrivateDevice
+names_a_table = record plain { entries = 0x8001 ∷ replicate 15 0 }
+
+a_table_is_hidden : value_read names_a_table places.Aperture Eight 0 ≡ 0
+a_table_is_hidden = refl
+
+and_not_written : (value_written names_a_table places.Aperture Eight 0 7).device.memory ≡ plain.memory
+and_not_written = refl
+
+-- ---- writes to tables
+
+-- An entry of the table at level 1 names a frame past memory. What was written stays.
+abbrev memory_with : ℕ → Memory
+memory_with entry = set plain.memory 11 (entry ∷ 0xd003 ∷ 0xe003 ∷ [])
+
+a_bad_entry_fails : value_written plain places.Memory Eight 0xb000 0xfffff003 ≡ fails (record plain { memory = memory_with 0xfffff003 }) Entry
+a_bad_entry_fails = refl
+
+without_roots_it_does_not : (value_written (record plain { roots = [] }) places.Memory Eight 0xb000 0xfffff003).reason ≡ None
+without_roots_it_does_not = refl
+
+-- ---- moves
+
+mapped_is_kept : move_answer plain 13 ≡ Kept
+mapped_is_kept = refl
+
+granted_is_kept : move_answer plain 2 ≡ Kept
+granted_is_kept = refl
+
+a_table_moves : move_answer plain 8 ≡ Moved
+a_table_moves = refl
+
+a_named_table_moves : move_answer names_a_table 8 ≡ Moved
+a_named_table_moves = refl
+
+all_move_in_failsafe : move_answer (failed plain) 2 ≡ Moved
+all_move_in_failsafe = refl

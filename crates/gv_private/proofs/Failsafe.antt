@@ -2,7 +2,6 @@
 use Rattle.std.proofs.Common.{◌≡◌, ℕ, suc, zero, ◌-◌, ◌||◌, Bool, true, false, List, [], ◌∷◌, cond, length, refl, sym, ap, ◌∙◌}
 use Rattle.std.specs.List.{list_any, filter, range_with_len}
 use Rattle.gv_types.specs.Memory.{Memory, memory_write}
-use Rattle.gv_types.specs.declared.event.Event.{Event}
 use Rattle.gv_types.specs.declared.event.Event.TheVariants.{Read, Write, Turn, Switch, Move, Reset}
 use Rattle.gv_types.specs.declared.event.Place.TheVariants as places
 use Rattle.gv_types.specs.declared.reply.Outcome.TheVariants as outcomes
@@ -11,7 +10,7 @@ use Rattle.gv_entry.specs.Tables.{any_entry, is_bad_entry, tables_named, live_be
 use Rattle.gv_private.specs.Access.{range_written, aperture_written}
 use Rattle.gv_private.specs.Device.{PrivateDevice, Written, failed, fails, quietly}
 use Rattle.gv_private.specs.Inputs.{answer}
-use Rattle.gv_private.specs.Laws.{is_reset, OnlyMemoryChanges, FailsafeStays}
+use Rattle.gv_private.specs.Laws.{OnlyMemoryChanges, FailsafeStays}
 use Rattle.gv_private.specs.Turn.{Turned, turned_as, turned_by}
 
 -- ---- without roots there is no live table

@@ -1,7 +1,7 @@
 -- What a grant for writing names is no live table, so a write through it leaves all tables as they are.
 use Rattle.std.proofs.Common.{◌≡◌, ℕ, ◌+◌, ◌*◌, ◌/◌, ◌%◌, Bool, true, false, not, ◌&&◌, List, Option, None, Some, cond, length, refl, ap, ◌∙◌, arith}
 use Rattle.std.specs.Prelude.{IfSome}
-use Rattle.gv_types.specs.Memory.{Memory, word_of, with_half, with_value}
+use Rattle.gv_types.specs.Memory.{Memory, word_of, with_half}
 use Rattle.gv_types.specs.declared.event.Width.{Width}
 use Rattle.gv_types.specs.declared.event.Width.TheVariants.{Four, Eight}
 use Rattle.gv_types.specs.declared.ranges.Ranges.{Ranges}

@@ -1,7 +1,7 @@
 -- What holds of a device after each small change holds after every access and every turn.
-use Rattle.std.proofs.Common.{◌≡◌, ℕ, ◌+◌, ◌*◌, ◌/◌, ◌%◌, ◌^◌, Bool, true, false, List, [], ◌∷◌, ◌++◌, Option, None, Some, Result, Ok, Err, not, ◌&&◌, ◌||◌, cond, length, refl, sym, ap, ◌∙◌, eqb, ltb, ⊎_elim}
+use Rattle.std.proofs.Common.{◌≡◌, ℕ, ◌+◌, ◌*◌, ◌/◌, ◌%◌, ◌^◌, Bool, true, false, List, [], ◌∷◌, ◌++◌, Option, None, Some, Result, Ok, Err, not, ◌&&◌, ◌||◌, cond, length, refl, sym, ap, ◌∙◌, eqb, ltb}
 use Rattle.std.specs.Prelude.{IfOk}
-use Rattle.std.proofs.lemmas.Bool.{eq-eqb, or_cases, eqb-true}
+use Rattle.std.proofs.lemmas.Bool.{eq-eqb, eqb-true}
 use Rattle.std.proofs.lemmas.List.{length-set}
 use Rattle.gv_types.specs.Memory.{Memory, memory_write, with_value}
 use Rattle.gv_types.specs.declared.event.Event.{Event}
@@ -36,12 +36,12 @@ use Rattle.gv_regs.specs.declared.effect.Target.TheVariants.{Own, Elsp, Status a
 use Rattle.gv_private.specs.Access.{table_at, page_at, entry_after, table_written, aperture_frame, aperture_written, memory_written, dwords_written, range_written, value_written}
 use Rattle.gv_private.specs.Device.{Engine, PrivateDevice, Working, Written, put, with_engine, with_slots, with_element, first_of_two, and_then, quietly, fails, failed, function_reset}
 use Rattle.gv_private.specs.Inputs.{answer}
-use Rattle.gv_private.specs.Grants.{page_grant, frame_written, global_written}
+use Rattle.gv_private.specs.Grants.{frame_written, global_written}
 use Rattle.gv_private.specs.Load.{global_space, image_in, work_of, fetched_into, loaded_by, loaded}
 use Rattle.gv_private.specs.Registers.{with_general, engines_are_reset, dword_written_by, dword_written}
-use Rattle.gv_private.specs.Roots.{with_root, announced, left_or_failed, root_created, root_destroyed, named_root, notify_written, unless_bad}
-use Rattle.gv_private.specs.Space.{PrivateSpace, space_of, with_space, private_operations}
-use Rattle.gv_private.specs.Status.{bit_raised, bits_raised, command_raised, status_at, copied, in_ring, event_given, events_given, context_switch}
+use Rattle.gv_private.specs.Roots.{with_root, announced, left_or_failed, root_created, root_destroyed, named_root, notify_written}
+use Rattle.gv_private.specs.Space.{PrivateSpace, space_of, with_space}
+use Rattle.gv_private.specs.Status.{bit_raised, bits_raised, status_at, in_ring, event_given, events_given, context_switch}
 use Rattle.gv_private.specs.Submission.{starting_events, list_submitted, with_writes, port_written_after}
 use Rattle.gv_private.specs.Turn.{Turned, turned_as, front_words, front_effect, ran_after, run_by, command_by, tail_written, without_front, finished, load_by, next_by, turned_by, turned}
 use Rattle.gv_private.proofs.Effects.{Reached, effect-reached}
@@ -230,35 +230,35 @@ module _
     (engine : ℕ)
     (put_root : (q : PrivateDevice) (root : ℕ) → P q → P (record q { roots = with_root q.roots root }))
     (begun : (q : PrivateDevice) (w : Working) → has q.roots w.root ≡ true → P q → P (with_element q engine (Some w)))
-    where
-  -- what is loaded keeps it
-  abbrev pub Good : Result PrivateDevice Reason → Type 0
-  Good r = IfOk r P
+  where
+    -- what is loaded keeps it
+    abbrev pub Good : Result PrivateDevice Reason → Type 0
+    Good r = IfOk r P
 
-  check-good : (b : Bool) (reason : Reason) (r : Result PrivateDevice Reason) → Good r → Good (check b reason r)
-  check-good true reason r good = good
-  check-good false reason r good = tt
+    check-good : (b : Bool) (reason : Reason) (r : Result PrivateDevice Reason) → Good r → Good (check b reason r)
+    check-good true reason r good = good
+    check-good false reason r good = tt
 
-  fetched-good : (q : PrivateDevice) (image : Image) (r : Result Items Reason) → has q.roots image.root ≡ true → P q → Good (then r (λ items. Ok (with_element q engine (Some (work_of image items)))))
-  fetched-good q image (Err reason) there here = tt
-  fetched-good q image (Ok items) there here = begun q (work_of image items) there here
+    fetched-good : (q : PrivateDevice) (image : Image) (r : Result Items Reason) → has q.roots image.root ≡ true → P q → Good (then r (λ items. Ok (with_element q engine (Some (work_of image items)))))
+    fetched-good q image (Err reason) there here = tt
+    fetched-good q image (Ok items) there here = begun q (work_of image items) there here
 
-  root-good : (b c : Bool) (q : PrivateDevice) (image : Image) → P q → Good (then (check b Entry (check c Entry (Ok (record q { roots = with_root q.roots image.root })))) (λ r. fetched_into r engine image))
-  root-good false c q image here = tt
-  root-good true false q image here = tt
-  root-good true true q image here =
-      let r = record q { roots = with_root q.roots image.root } in
-      fetched-good r image (fetched (global_space r) engine image) (with_root-has q.roots image.root) (put_root q image.root here)
+    root-good : (b c : Bool) (q : PrivateDevice) (image : Image) → P q → Good (then (check b Entry (check c Entry (Ok (record q { roots = with_root q.roots image.root })))) (λ r. fetched_into r engine image))
+    root-good false c q image here = tt
+    root-good true false q image here = tt
+    root-good true true q image here =
+        let r = record q { roots = with_root q.roots image.root } in
+        fetched-good r image (fetched (global_space r) engine image) (with_root-has q.roots image.root) (put_root q image.root here)
 
-  image-good : (q : PrivateDevice) (r : Result Image Reason) → P q → Good (then r (λ image. then (announced q image.root) (λ t. fetched_into t engine image)))
-  image-good q (Err reason) here = tt
-  image-good q (Ok image) here = root-good (ltb image.root (length q.memory)) (not (has_bad_entry q.memory (with_root q.roots image.root))) q image here
+    image-good : (q : PrivateDevice) (r : Result Image Reason) → P q → Good (then r (λ image. then (announced q image.root) (λ t. fetched_into t engine image)))
+    image-good q (Err reason) here = tt
+    image-good q (Ok image) here = root-good (ltb image.root (length q.memory)) (not (has_bad_entry q.memory (with_root q.roots image.root))) q image here
 
-  pub loaded-good : (q : PrivateDevice) (d : Descriptor) → P q → Good (loaded_by q engine d)
-  loaded-good q d here =
-      check-good (eqb d.mode 3) Context _
-      (check-good (owns_page q.ranges d.page && owns_page q.ranges (d.page + 1)) Range _
-      (image-good q (image_in q d.page) here))
+    pub loaded-good : (q : PrivateDevice) (d : Descriptor) → P q → Good (loaded_by q engine d)
+    loaded-good q d here =
+        check-good (eqb d.mode 3) Context _
+        (check-good (owns_page q.ranges d.page && owns_page q.ranges (d.page + 1)) Range _
+        (image-good q (image_in q d.page) here))
 
 module _ (P : PrivateDevice → Type 0) (May : ℕ → Type 0) (engine : ℕ) (kept : KeptByTurns P May engine) where
   space-keeps : (q : PrivateDevice) (w : Working) (s : PrivateSpace) → Reached (space_of q engine w.root) s → P q → P (with_space q engine s)

@@ -1,10 +1,10 @@
 -- Number, frames and ranges stay.
-use Rattle.std.proofs.Common.{◌≡◌, ℕ, ◌/◌, Bool, true, false, cond, ◌∙◌, refl}
+use Rattle.std.proofs.Common.{ℕ, ◌/◌, Bool, true, false, cond, ◌∙◌, refl}
 use Rattle.gv_types.specs.declared.event.Width.TheVariants.{Four}
 use Rattle.gv_private.specs.Device.{PrivateDevice}
 use Rattle.gv_private.specs.Grants.{page_grant}
 use Rattle.gv_private.specs.Laws.{SameGuest, GuestStays}
-use Rattle.gv_private.specs.Roots.{is_at_work, without_root, root_destroyed}
+use Rattle.gv_private.specs.Roots.{is_at_work, without_root}
 use Rattle.gv_private.proofs.Keeps.{frame_written-length, KeptByEvents, KeptByAccesses, KeptByTurns, Anything, event-always}
 
 destroyed-guest : (p : PrivateDevice) (b : Bool) (q r : PrivateDevice) → SameGuest p q → SameGuest p r → SameGuest p (cond b q r)

@@ -11,7 +11,7 @@ use Rattle.gv_private.specs.Device.{PrivateDevice, Working, quietly, fails}
 use Rattle.gv_private.specs.Laws.{is_still, StillTurnsChangeNothing}
 use Rattle.gv_private.specs.Load.{loaded}
 use Rattle.gv_private.specs.Space.{PrivateSpace}
-use Rattle.gv_private.specs.Turn.{Turned, turned_as, front_words, front_effect, run_by, command_by, finished, load_by, next_by, turned_by, turned}
+use Rattle.gv_private.specs.Turn.{Turned, turned_as, front_words, front_effect, run_by, command_by, finished, load_by, next_by, turned_by}
 
 abbrev IsStill : PrivateDevice → Turned → Type 0
 IsStill p t = is_still t.outcome ≡ true → t ≡ turned_as t.outcome (quietly p)

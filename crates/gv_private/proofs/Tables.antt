@@ -1,6 +1,5 @@
 -- A turn changes no live table.
 use Rattle.std.proofs.Common.{◌≡◌, ℕ, ◌+◌, ◌*◌, ◌/◌, Bool, true, false, List, [], ◌∷◌, Option, None, Some, Result, Ok, Err, cond, refl, subst}
-use Rattle.gv_types.specs.Memory.{Memory}
 use Rattle.gv_types.specs.declared.event.Width.TheVariants.{Four}
 use Rattle.gv_types.specs.declared.reply.Outcome.TheVariants as outcomes
 use Rattle.gv_types.specs.declared.reply.Reason.{Reason}
@@ -9,14 +8,12 @@ use Rattle.gv_cmd.specs.Allowed.{is_allowed}
 use Rattle.gv_cmd.specs.Command.{decoded}
 use Rattle.gv_cmd.specs.declared.command.Unlisted.{Unlisted}
 use Rattle.gv_csb.specs.Slots.{completion_events}
-use Rattle.gv_csb.specs.declared.status.Status.{Status}
 use Rattle.gv_ctx.specs.Descriptor.{descriptor_of}
 use Rattle.gv_entry.specs.SameTables.{SameTables}
 use Rattle.gv_entry.proofs.SameTables.{same_tables_chain, tables_decide}
 use Rattle.gv_fetch.specs.Left.{is_done, is_privileged, stands_of}
 use Rattle.std.specs.Prelude.{IfOk}
 use Rattle.gv_entry.specs.Ranges.{is_in}
-use Rattle.gv_types.specs.declared.event.Width.{Width}
 use Rattle.gv_private.specs.Access.{aperture_frame, aperture_written}
 use Rattle.gv_private.specs.Device.{PrivateDevice, Working, context_page, quietly, fails}
 use Rattle.gv_private.specs.Grants.{page_grant, frame_written}

@@ -1,8 +1,7 @@
 -- A guest is told a reason exactly where it enters failsafe.
-use Rattle.std.proofs.Common.{◌≡◌, ℕ, ◌+◌, ◌*◌, ◌/◌, ◌%◌, ◌^◌, Bool, true, false, not, ◌&&◌, List, [], ◌∷◌, ◌++◌, Option, None, Some, Result, Ok, Err, cond, length, refl, sym, ap, ◌∙◌, subst, eqb, ltb}
+use Rattle.std.proofs.Common.{◌≡◌, ℕ, ◌+◌, ◌*◌, ◌/◌, ◌%◌, ◌^◌, Bool, true, false, not, List, [], ◌∷◌, Option, None, Some, Result, Ok, Err, cond, length, refl, ap, eqb, ltb}
 use Rattle.std.specs.Prelude.{MatchOption, IfOk}
 use Rattle.gv_types.specs.Memory.{memory_write}
-use Rattle.gv_types.specs.declared.event.Event.{Event}
 use Rattle.gv_types.specs.declared.event.Event.TheVariants.{Read, Write, Turn, Switch, Move, Reset}
 use Rattle.gv_types.specs.declared.event.Place.{Place}
 use Rattle.gv_types.specs.declared.event.Place.TheVariants as places
@@ -23,9 +22,8 @@ use Rattle.gv_fetch.specs.Left.{is_done, stands_of}
 use Rattle.gv_regs.specs.Table.{target_at}
 use Rattle.gv_regs.specs.declared.effect.Target.{Target}
 use Rattle.gv_regs.specs.declared.effect.Target.TheVariants.{Own, Elsp, Status as StatusPair, StatusPointer, General, Interrupts, EngineReset, Notify, Absent}
-use Rattle.gv_private.specs.Access.{table_at, table_written, aperture_written, memory_written, dwords_written, range_written, value_written}
+use Rattle.gv_private.specs.Access.{table_at, table_written, aperture_written, dwords_written, range_written, value_written}
 use Rattle.gv_private.specs.Device.{PrivateDevice, Working, Written, with_slots, first_of_two, and_then, quietly, fails, failed}
-use Rattle.gv_private.specs.Inputs.{answer}
 use Rattle.gv_private.specs.Laws.{FailsafeIsTold}
 use Rattle.gv_private.specs.Load.{loaded}
 use Rattle.gv_private.specs.Registers.{dword_written_by, dword_written}
@@ -33,7 +31,7 @@ use Rattle.gv_private.specs.Roots.{with_root, without_root, is_at_work, left_or_
 use Rattle.gv_private.specs.Space.{PrivateSpace}
 use Rattle.gv_private.specs.Status.{bit_raised, bits_raised, user_interrupt, notify, event_given, events_given}
 use Rattle.gv_private.specs.Submission.{starting_events, list_submitted, with_writes, port_written_after}
-use Rattle.gv_private.specs.Turn.{Turned, turned_as, front_words, front_effect, ran_after, run_by, command_by, tail_written, without_front, finished, load_by, next_by, turned_by, turned}
+use Rattle.gv_private.specs.Turn.{Turned, turned_as, front_words, front_effect, ran_after, run_by, command_by, tail_written, without_front, finished, load_by, next_by, turned_by}
 use Rattle.gv_private.proofs.Keeps.{loaded-good}
 use Rattle.gv_cmd.specs.Bits.{bit}
 use Rattle.std.specs.List.{filter}

@@ -1,5 +1,5 @@
 -- A load reads no frame that no owned entry names, but for tables.
-use Rattle.std.proofs.Common.{◌≡◌, ◌≢◌, ℕ, ◌+◌, ◌*◌, ◌/◌, ◌%◌, Bool, true, false, not, ◌&&◌, List, [], ◌∷◌, Option, None, Some, Result, Ok, Err, cond, length, set, refl, sym, ap, ◌∙◌, subst, eqb, ltb}
+use Rattle.std.proofs.Common.{◌≡◌, ◌≢◌, ℕ, ◌+◌, ◌*◌, ◌/◌, Bool, true, false, not, ◌&&◌, List, [], ◌∷◌, Option, None, Some, Result, Ok, Err, cond, length, set, refl, sym, ap, ◌∙◌, eqb, ltb}
 use Rattle.gv_types.specs.Memory.{Memory}
 use Rattle.gv_types.specs.declared.event.Width.TheVariants.{Four}
 use Rattle.gv_types.specs.declared.reply.Outcome.TheVariants as outcomes
@@ -13,18 +13,17 @@ use Rattle.gv_entry.specs.Entry.{global_frame}
 use Rattle.gv_entry.specs.Global.{entry_of}
 use Rattle.gv_entry.specs.Grants.{unless, nothing_guarded}
 use Rattle.gv_entry.specs.Ranges.{owns_page}
-use Rattle.gv_entry.specs.SameTables.{SameTables}
 use Rattle.gv_entry.specs.Tables.{has_bad_entry, is_guarded}
 use Rattle.gv_entry.proofs.SameTables.{tables_decide, unguarded_frame_keeps_tables}
 use Rattle.gv_fetch.specs.Fetch.{GlobalSpace, dwords, check, then, fetched}
 use Rattle.gv_fetch.specs.Items.{Items}
 use Rattle.gv_fetch.specs.Space.{dword_in}
-use Rattle.gv_private.specs.Device.{PrivateDevice, Working, with_element, quietly, fails}
-use Rattle.gv_private.specs.Grants.{page_grant_in, page_grant, frame_read}
+use Rattle.gv_private.specs.Device.{PrivateDevice, with_element, quietly}
+use Rattle.gv_private.specs.Grants.{page_grant_in, page_grant}
 use Rattle.gv_private.specs.Laws.{with_frame, turned_with_frame, IsUnnamed, UnnamedIsUntouched}
-use Rattle.gv_private.specs.Load.{global_space, image_dwords, good_or_context, image_in, work_of, fetched_into, loaded_by, loaded}
+use Rattle.gv_private.specs.Load.{global_space, good_or_context, image_in, work_of, fetched_into, loaded_by, loaded}
 use Rattle.gv_private.specs.Roots.{with_root, announced}
-use Rattle.gv_private.specs.Turn.{Turned, turned_as, load_by, next_by, turned_by, turned}
+use Rattle.gv_private.specs.Turn.{Turned, turned_as, load_by, next_by, turned_by}
 use Rattle.gv_private.proofs.Untouched.{page_same, read_other}
 
 -- ---- what a page grants is named by its entry
@@ -81,7 +80,7 @@ module _ (frame : ℕ) (words : List ℕ) where
       ∙ items_same q engine image (fetched (global_space q) engine image)
 
   announced_by : (b c : Bool) (q r : PrivateDevice) (engine : ℕ) (image : Image) → Apart r
-    → then (check b Entry (check c Entry (Ok (other r)))) (λ t. fetched_into t engine image) ≡ others (then (check b Entry (check c Entry (Ok r))) (λ t. fetched_into t engine image))
+      → then (check b Entry (check c Entry (Ok (other r)))) (λ t. fetched_into t engine image) ≡ others (then (check b Entry (check c Entry (Ok r))) (λ t. fetched_into t engine image))
   announced_by false c q r engine image apart = refl
   announced_by true false q r engine image apart = refl
   announced_by true true q r engine image apart = fetched_same r engine image apart
@@ -95,7 +94,7 @@ module _ (frame : ℕ) (words : List ℕ) where
       ∙ announced_by (ltb image.root (length q.memory)) (not (has_bad_entry q.memory (with_root q.roots image.root))) q r engine image apart
 
   image_then : (q : PrivateDevice) (engine : ℕ) (r : Result Image Reason) → ((root : ℕ) → Apart (record q { roots = with_root q.roots root }))
-    → then r (λ image. then (announced (other q) image.root) (λ t. fetched_into t engine image)) ≡ others (then r (λ image. then (announced q image.root) (λ t. fetched_into t engine image)))
+      → then r (λ image. then (announced (other q) image.root) (λ t. fetched_into t engine image)) ≡ others (then r (λ image. then (announced q image.root) (λ t. fetched_into t engine image)))
   image_then q engine (Err reason) apart = refl
   image_then q engine (Ok image) apart = announced_same q engine image (apart image.root)
 

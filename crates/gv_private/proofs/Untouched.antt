@@ -1,6 +1,6 @@
 -- A turn of an element at work neither reads nor writes a frame that no grant gives: with other words in it the turn
 -- does the same.
-use Rattle.std.proofs.Common.{◌≡◌, ◌≢◌, ℕ, suc, zero, ◌+◌, ◌*◌, ◌/◌, ◌%◌, ◌^◌, Bool, true, false, not, ◌&&◌, List, [], ◌∷◌, Option, None, Some, Result, Ok, Err, cond, length, get_or, set, refl, sym, ap, ◌∙◌, subst}
+use Rattle.std.proofs.Common.{◌≡◌, ◌≢◌, ℕ, suc, zero, ◌+◌, ◌*◌, ◌/◌, ◌%◌, ◌^◌, Bool, true, false, not, ◌&&◌, List, [], ◌∷◌, Option, None, Some, Result, Ok, Err, cond, get_or, set, refl, sym, ap, ◌∙◌, subst}
 use Rattle.std.proofs.lemmas.List.{get_or-set_other}
 use Rattle.gv_types.specs.Memory.{Memory, word_of, with_word, half_of, with_half}
 use Rattle.gv_types.specs.declared.event.Width.{Width}
@@ -12,16 +12,16 @@ use Rattle.gv_types.specs.declared.reply.Reason.TheVariants.{Command}
 use Rattle.gv_cmd.specs.Allowed.{is_allowed}
 use Rattle.gv_cmd.specs.Bits.{bit}
 use Rattle.gv_cmd.specs.Command.{decoded}
-use Rattle.gv_cmd.specs.Effect.{Effect, effect}
+use Rattle.gv_cmd.specs.Effect.{effect}
 use Rattle.gv_cmd.specs.Simulation.{Simulates, SameEffect}
 use Rattle.gv_cmd.specs.Table.{kind_of}
 use Rattle.gv_cmd.specs.declared.command.Unlisted.{Unlisted}
 use Rattle.gv_cmd.proofs.Simulation.{effects_agree}
-use Rattle.gv_csb.specs.Slots.{pushed, completion_events}
+use Rattle.gv_csb.specs.Slots.{completion_events}
 use Rattle.gv_csb.specs.declared.status.Status.{Status}
 use Rattle.gv_ctx.specs.Descriptor.{descriptor_of}
 use Rattle.gv_entry.specs.Global.{entry_of}
-use Rattle.gv_entry.specs.Grants.{global_grant, frame_of, if_writable, read_grant, write_grant}
+use Rattle.gv_entry.specs.Grants.{global_grant, frame_of, if_writable, read_grant}
 use Rattle.gv_entry.specs.SameTables.{has, SameTables}
 use Rattle.gv_entry.specs.Tables.{Mapped, walk, is_guarded}
 use Rattle.gv_entry.proofs.SameTables.{tables_decide, unguarded_frame_keeps_tables}
@@ -30,11 +30,11 @@ use Rattle.std.specs.Prelude.{IfOk}
 use Rattle.std.specs.List.{filter}
 use Rattle.gv_private.specs.Device.{PrivateDevice, Working, Written, and_then, first_of_two, context_page, quietly, fails}
 use Rattle.gv_private.specs.Grants.{page_grant_in, page_grant, frame_read, frame_written, global_written}
-use Rattle.gv_private.specs.Laws.{with_frame, turned_with_frame, IsUngranted, UngrantedIsUntouched, LoadsWriteNothing}
+use Rattle.gv_private.specs.Laws.{with_frame, turned_with_frame, UngrantedIsUntouched, LoadsWriteNothing}
 use Rattle.gv_private.specs.Load.{loaded}
 use Rattle.gv_private.specs.Space.{PrivateSpace, space_of, reads, writes, dword_read, dword_written, byte_read, byte_written, byte_of, with_byte, word_at, bytes_written, colour_byte, private_operations}
 use Rattle.gv_private.specs.Status.{bit_raised, bits_raised, status_at, in_ring, event_given, events_given, context_switch, user_interrupt, notify}
-use Rattle.gv_private.specs.Turn.{Turned, turned_as, front_words, front_effect, ran_after, run_by, command_by, tail_written, without_front, finished, load_by, next_by, turned_by, turned}
+use Rattle.gv_private.specs.Turn.{Turned, turned_as, front_words, front_effect, ran_after, run_by, command_by, tail_written, without_front, finished, load_by, next_by, turned_by}
 use Rattle.gv_private.proofs.Effects.{May, may_do, writes-free}
 use Rattle.gv_private.proofs.Granted.{frame_at, page-free, frame_written-tables}
 use Rattle.gv_private.proofs.Keeps.{loaded-good}
@@ -106,11 +106,11 @@ module _ (frame : ℕ) (words : List ℕ) where
   spared-memory : (s : PrivateSpace) (m : Memory) → SameTables s.memory m s.roots → Spared s → Spared (record s { memory = m })
   spared-memory s m same spared =
       let meaning = tables_decide s.memory m s.roots same in record {
-      rooted = spared.rooted;
-      table = ap (λ (g : ℕ → Bool). g frame) meaning.guarded ∙ spared.table;
-      global = λ page is. spared.global page (sym (page_same s.ranges s.entries s.memory m s.roots page same) ∙ is);
-      process = λ at is. spared.process at (sym (meaning.read s.root at spared.rooted) ∙ is);
-    }
+        rooted = spared.rooted;
+        table = ap (λ (g : ℕ → Bool). g frame) meaning.guarded ∙ spared.table;
+        global = λ page is. spared.global page (sym (page_same s.ranges s.entries s.memory m s.roots page same) ∙ is);
+        process = λ at is. spared.process at (sym (meaning.read s.root at spared.rooted) ∙ is);
+      }
 
   same_tables : (s : PrivateSpace) → Spared s → SameTables s.memory (set s.memory frame words) s.roots
   same_tables s spared = unguarded_frame_keeps_tables s.memory s.roots frame words spared.table
@@ -168,9 +168,9 @@ module _ (frame : ℕ) (words : List ℕ) where
   twins-byte : (x y : PrivateSpace) (at value : ℕ) → Twins x y → Twins (byte_written x at value) (byte_written y at value)
   twins-byte x y at value twins =
       let word = with_byte (frame_read x.memory Eight (word_at at) (writes x false at)) at value in record {
-      equal = ap (λ s. byte_written s at value) twins.equal ∙ byte_same x at value twins.spared;
-      spared = spared-memory x (frame_written x.memory Eight (word_at at) word (writes x false at)) (frame_written-tables x.memory x.roots Eight (word_at at) word (writes x false at) (writes-free x false at)) twins.spared;
-    }
+        equal = ap (λ s. byte_written s at value) twins.equal ∙ byte_same x at value twins.spared;
+        spared = spared-memory x (frame_written x.memory Eight (word_at at) word (writes x false at)) (frame_written-tables x.memory x.roots Eight (word_at at) word (writes x false at) (writes-free x false at)) twins.spared;
+      }
 
   twins-bytes : (x y : PrivateSpace) (at : ℕ) (bytes : ℕ → ℕ) (n : ℕ) → Twins x y → Twins (bytes_written x at bytes n) (bytes_written y at bytes n)
   unfolding bytes_written
@@ -226,9 +226,9 @@ module _ (frame : ℕ) (words : List ℕ) where
   apart-written q at value apart =
       let same = written-tables q at value in
       let meaning = tables_decide q.memory (global_written q at value).memory q.roots same in record {
-      table = ap (λ (g : ℕ → Bool). g frame) meaning.guarded ∙ apart.table;
-      global = λ page is. apart.global page (sym (page_same q.ranges q.entries q.memory (global_written q at value).memory q.roots page same) ∙ is);
-    }
+        table = ap (λ (g : ℕ → Bool). g frame) meaning.guarded ∙ apart.table;
+        global = λ page is. apart.global page (sym (page_same q.ranges q.entries q.memory (global_written q at value).memory q.roots page same) ∙ is);
+      }
 
   written_same : (q : PrivateDevice) (at value : ℕ) → Apart q → global_written (other q) at value ≡ other (global_written q at value)
   written_same q at value apart =

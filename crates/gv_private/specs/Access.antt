@@ -1,6 +1,6 @@
 -- What a guest's access reads or leaves, by its place: memory, the aperture, and the register range with the global
 -- table at its upper half.
-use Rattle.std.specs.Prelude.{ℕ, ◌+◌, ◌-◌, ◌*◌, ◌/◌, ◌%◌, ◌^◌, Option, None, Some, nat_lt, if◌then◌else◌}
+use Rattle.std.specs.Prelude.{ℕ, ◌+◌, ◌-◌, ◌*◌, ◌/◌, ◌%◌, ◌^◌, Option, None, nat_lt, if◌then◌else◌}
 use Rattle.gv_types.specs.Memory.{memory_read, memory_write, half_of, with_half}
 use Rattle.gv_types.specs.declared.event.Place.{Place}
 use Rattle.gv_types.specs.declared.event.Place.TheVariants as places

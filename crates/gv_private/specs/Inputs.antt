@@ -1,5 +1,5 @@
 -- What a private device makes of its inputs: the replies, the device that is left, and the commands that ran.
-use Rattle.std.specs.Prelude.{ℕ, List, [], ◌∷◌, ◌++◌, None, replicate}
+use Rattle.std.specs.Prelude.{ℕ, List, [], ◌∷◌, ◌++◌, replicate}
 use Rattle.gv_types.specs.declared.event.Event.{Event}
 use Rattle.gv_types.specs.declared.event.Event.TheVariants as events
 use Rattle.gv_types.specs.declared.ids.EngineId.{EngineId}

@@ -1,5 +1,5 @@
 -- Each dword of the register range below the global table, by the part of the device that serves it.
-use Rattle.std.specs.Prelude.{ℕ, ◌+◌, ◌*◌, ◌/◌, ◌%◌, ◌==◌, List, Bool, false, if◌then◌else◌, slice_index_or}
+use Rattle.std.specs.Prelude.{ℕ, ◌*◌, ◌/◌, ◌%◌, ◌==◌, List, Bool, false, if◌then◌else◌, slice_index_or}
 use Rattle.gv_types.specs.Memory.{half_of, with_half}
 use Rattle.gv_csb.specs.Slots.{Execlists, pointer_of, pointer_written}
 use Rattle.gv_irq.specs.Irq.{irq_read, irq_written, writing_tells}

@@ -1,10 +1,9 @@
 -- The roots of per-process tables: their creation and destruction, by the notify register of the PVINFO page or by
 -- the load of an element, and the check of the tables after a write.
-use Rattle.std.specs.Prelude.{ℕ, ◌+◌, ◌*◌, ◌/◌, ◌%◌, ◌^◌, List, [], ◌∷◌, Bool, false, not, ◌||◌, ◌&&◌, ◌==◌, nat_lt, Option, None, Some, Result, Ok, Err, filter, length, if◌then◌else◌}
+use Rattle.std.specs.Prelude.{ℕ, ◌+◌, ◌*◌, ◌/◌, ◌%◌, ◌^◌, List, [], ◌∷◌, Bool, false, not, ◌==◌, nat_lt, Option, None, Some, Result, Ok, Err, filter, length, if◌then◌else◌}
 use Rattle.std.specs.List.{list_any}
 use Rattle.gv_types.specs.declared.reply.Reason.{Reason}
 use Rattle.gv_types.specs.declared.reply.Reason.TheVariants.{Entry}
-use Rattle.gv_entry.specs.SameTables.{has}
 use Rattle.gv_entry.specs.Tables.{has_bad_entry}
 use Rattle.gv_fetch.specs.Fetch.{check}
 use Rattle.gv_private.specs.Device.{PrivateDevice, Working, Written, quietly, fails}

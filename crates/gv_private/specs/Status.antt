@@ -1,6 +1,5 @@
 -- Interrupt bits of an engine, and the events of its context status buffer (CSB).
 use Rattle.std.specs.Prelude.{ℕ, ◌+◌, ◌*◌, ◌/◌, List, [], ◌∷◌, filter}
-use Rattle.gv_types.specs.Memory.{Memory}
 use Rattle.gv_csb.specs.Slots.{pushed}
 use Rattle.gv_csb.specs.declared.status.Status.{Status}
 use Rattle.gv_cmd.specs.Bits.{bit}

@@ -1,9 +1,9 @@
 -- Submission through the execlist port (ELSP).
-use Rattle.std.specs.Prelude.{ℕ, ◌+◌, ◌*◌, ◌^◌, List, [], ◌∷◌, ◌++◌, Bool, true}
+use Rattle.std.specs.Prelude.{ℕ, ◌+◌, ◌*◌, ◌^◌, List, [], ◌∷◌, ◌++◌, true}
 use Rattle.gv_csb.specs.Slots.{submitted, submission_answer}
 use Rattle.gv_csb.specs.Status.{idle_to_active}
 use Rattle.gv_csb.specs.declared.slots.Submitted.{Submitted}
-use Rattle.gv_csb.specs.declared.slots.Submitted.TheVariants.{Dropped, Accepted}
+use Rattle.gv_csb.specs.declared.slots.Submitted.TheVariants.{Accepted}
 use Rattle.gv_csb.specs.declared.status.Status.{Status}
 use Rattle.gv_private.specs.Device.{PrivateDevice, Written, with_engine, with_slots, quietly}
 use Rattle.gv_private.specs.Status.{events_given}

@@ -1,5 +1,5 @@
 -- A turn of an engine of the private device.
-use Rattle.std.specs.Prelude.{ℕ, ◌+◌, ◌*◌, List, [], ◌∷◌, Bool, false, Option, None, Some, Result, Ok, Err, if◌then◌else◌}
+use Rattle.std.specs.Prelude.{ℕ, ◌+◌, ◌*◌, List, [], ◌∷◌, false, Option, None, Some, Result, Ok, Err, if◌then◌else◌}
 use Rattle.gv_types.specs.declared.reply.Outcome.{Outcome}
 use Rattle.gv_types.specs.declared.reply.Outcome.TheVariants as outcomes
 use Rattle.gv_types.specs.declared.reply.Reason.{Reason}
@@ -9,8 +9,8 @@ use Rattle.gv_cmd.specs.Command.{decoded, shape_of}
 use Rattle.gv_cmd.specs.Effect.{Effect, effect}
 use Rattle.gv_cmd.specs.declared.command.Unlisted.{Unlisted}
 use Rattle.gv_csb.specs.Slots.{completed, completion_events}
-use Rattle.gv_fetch.specs.Left.{Left, front, live_command, is_done, is_privileged, moved, stands_of}
-use Rattle.gv_private.specs.Device.{Engine, PrivateDevice, Working, Written, with_slots, with_element, context_page, quietly, fails}
+use Rattle.gv_fetch.specs.Left.{front, live_command, is_done, is_privileged, moved, stands_of}
+use Rattle.gv_private.specs.Device.{PrivateDevice, Working, Written, with_slots, with_element, context_page, quietly, fails}
 use Rattle.gv_private.specs.Grants.{global_written}
 use Rattle.gv_private.specs.Load.{loaded}
 use Rattle.gv_private.specs.Space.{PrivateSpace, space_of, with_space, dword_read, private_operations}
