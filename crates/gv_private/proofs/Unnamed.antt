@@ -18,7 +18,7 @@ use Rattle.gv_entry.proofs.SameTables.{tables_decide, unguarded_frame_keeps_tabl
 use Rattle.gv_fetch.specs.Fetch.{GlobalSpace, dwords, check, then, fetched}
 use Rattle.gv_fetch.specs.Items.{Items}
 use Rattle.gv_fetch.specs.Space.{dword_in}
-use Rattle.gv_private.specs.Device.{PrivateDevice, with_element, quietly}
+use Rattle.gv_private.specs.Device.{PrivateDevice, with_element, quietly, front_descriptor}
 use Rattle.gv_private.specs.Grants.{page_grant_in, page_grant}
 use Rattle.gv_private.specs.Laws.{with_frame, turned_with_frame, IsUnnamed, UnnamedIsUntouched}
 use Rattle.gv_private.specs.Load.{global_space, good_or_context, image_in, work_of, fetched_into, loaded_by, loaded}
@@ -93,16 +93,16 @@ module _ (frame : ℕ) (words : List ℕ) where
       (λ i. then (check (ltb image.root (same.frames i)) Entry (check (not (meaning.bad i)) Entry (Ok (other r)))) (λ t. fetched_into t engine image))
       ∙ announced_by (ltb image.root (length q.memory)) (not (has_bad_entry q.memory (with_root q.roots image.root))) q r engine image apart
 
-  image_then : (q : PrivateDevice) (engine : ℕ) (r : Result Image Reason) → ((root : ℕ) → Apart (record q { roots = with_root q.roots root }))
+  image_then : (q : PrivateDevice) (engine : ℕ) (r : Result Image Reason) → ((image : Image) → r ≡ Ok image → Apart (record q { roots = with_root q.roots image.root }))
       → then r (λ image. then (announced (other q) image.root) (λ t. fetched_into t engine image)) ≡ others (then r (λ image. then (announced q image.root) (λ t. fetched_into t engine image)))
   image_then q engine (Err reason) apart = refl
-  image_then q engine (Ok image) apart = announced_same q engine image (apart image.root)
+  image_then q engine (Ok image) apart = announced_same q engine image (apart image refl)
 
   check_same : (b : Bool) (reason : Reason) (x y : Result PrivateDevice Reason) → x ≡ others y → check b reason x ≡ others (check b reason y)
   check_same true reason x y same = same
   check_same false reason x y same = refl
 
-  loaded_same : (q : PrivateDevice) (engine : ℕ) (d : Descriptor) → Apart q → ((root : ℕ) → Apart (record q { roots = with_root q.roots root })) → loaded_by (other q) engine d ≡ others (loaded_by q engine d)
+  loaded_same : (q : PrivateDevice) (engine : ℕ) (d : Descriptor) → Apart q → ((image : Image) → image_in q d.page ≡ Ok image → Apart (record q { roots = with_root q.roots image.root })) → loaded_by (other q) engine d ≡ others (loaded_by q engine d)
   loaded_same q engine d apart later =
       check_same (eqb d.mode 3) Context _ _
       (check_same (owns_page q.ranges d.page && owns_page q.ranges (d.page + 1)) Range _ _
@@ -113,7 +113,7 @@ module _ (frame : ℕ) (words : List ℕ) where
   load_same p (Ok q) = refl
   load_same p (Err reason) = refl
 
-  next_same : (p : PrivateDevice) (engine : ℕ) (running : List ℕ) → Apart p → ((root : ℕ) → Apart (record p { roots = with_root p.roots root })) → next_by (other p) engine running ≡ turned_with_frame (next_by p engine running) frame words
+  next_same : (p : PrivateDevice) (engine : ℕ) (running : List ℕ) → Apart p → ((image : Image) → image_in p (descriptor_of (front_descriptor running)).page ≡ Ok image → Apart (record p { roots = with_root p.roots image.root })) → next_by (other p) engine running ≡ turned_with_frame (next_by p engine running) frame words
   next_same p engine [] apart later = refl
   next_same p engine (descriptor ∷ more) apart later =
       ap (load_by (other p)) (loaded_same p engine (descriptor_of descriptor) apart later) ∙ load_same p (loaded p engine descriptor)
@@ -122,8 +122,8 @@ module _ (frame : ℕ) (words : List ℕ) where
   idle_same p true x y same = refl
   idle_same p false x y same = same
 
-unnamed_page : (p : PrivateDevice) (frame : ℕ) (roots : List ℕ) → IsUnnamed p frame → (page : ℕ) → page_grant_in p.ranges p.entries p.memory roots page ≢ Some frame
-unnamed_page p frame roots unnamed page =
+unnamed_page : (p : PrivateDevice) (engine frame : ℕ) (roots : List ℕ) → IsUnnamed p engine frame → (page : ℕ) → page_grant_in p.ranges p.entries p.memory roots page ≢ Some frame
+unnamed_page p engine frame roots unnamed page =
     let o = global_frame (entry_of p.ranges p.entries page) (length p.memory) in
     λ is. unnamed.global page (owned_named frame (owns_page p.ranges page) (unless (is_guarded p.memory roots) o) (unless nothing_guarded o) (unless_named frame (is_guarded p.memory roots) o) is)
 
@@ -132,6 +132,6 @@ unnamed_is_untouched p engine frame words none unnamed =
     idle_same frame words p p.failsafe (turned_by (with_frame p frame words) engine (p.engines engine).element) (turned_by p engine (p.engines engine).element)
     (ap (turned_by (with_frame p frame words) engine) none
     ∙ (next_same frame words p engine (p.engines engine).slots.running
-    (record { table = unnamed.table; global = unnamed_page p frame p.roots unnamed })
-    (λ root. record { table = unnamed.announced root; global = unnamed_page p frame (with_root p.roots root) unnamed })
+    (record { table = unnamed.table; global = unnamed_page p engine frame p.roots unnamed })
+    (λ image is. record { table = unnamed.announced image is; global = unnamed_page p engine frame (with_root p.roots image.root) unnamed })
     ∙ sym (ap (λ element. turned_with_frame (turned_by p engine element) frame words) none)))

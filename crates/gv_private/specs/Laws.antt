@@ -1,5 +1,5 @@
 -- What holds of every private device, whatever its guest does.
-use Rattle.std.specs.Prelude.{ℕ, ◌+◌, ◌/◌, ◌%◌, ◌^◌, ◌<◌, ◌≡◌, Bool, true, false, ◌||◌, ◌&&◌, ◌==◌, List, length, slice_set, ◌≢◌, Option, None, Some, MatchOption}
+use Rattle.std.specs.Prelude.{ℕ, ◌+◌, ◌/◌, ◌%◌, ◌^◌, ◌<◌, ◌≡◌, Bool, true, false, ◌||◌, ◌&&◌, ◌==◌, List, length, slice_set, ◌≢◌, Option, None, Some, MatchOption, Ok}
 use Rattle.gv_types.specs.declared.event.Event.{Event}
 use Rattle.gv_types.specs.declared.event.Event.TheVariants.{Write, Turn, Reset}
 use Rattle.gv_types.specs.declared.event.Place.{Place}
@@ -12,15 +12,17 @@ use Rattle.gv_types.specs.declared.reply.Outcome.TheVariants.{Waited, Idle}
 use Rattle.gv_regs.specs.Table.{target_at, engines_reset}
 use Rattle.gv_regs.specs.declared.effect.Target.{Target}
 use Rattle.gv_regs.specs.declared.effect.Target.TheVariants.{EngineReset}
+use Rattle.gv_ctx.specs.declared.image.Image.{Image}
 use Rattle.gv_csb.specs.declared.status.Status.{Status}
 use Rattle.gv_entry.specs.Global.{entry_of}
 use Rattle.gv_entry.specs.Grants.{global_grant, nothing_guarded, read_grant}
 use Rattle.gv_entry.specs.SameTables.{has, SameMeaning}
 use Rattle.gv_entry.specs.Tables.{is_guarded}
 use Rattle.gv_private.specs.Access.{aperture_written}
-use Rattle.gv_private.specs.Device.{PrivateDevice, Working, new_device, failed, quietly}
+use Rattle.gv_private.specs.Device.{PrivateDevice, Working, new_device, failed, context_page, quietly}
 use Rattle.gv_private.specs.Grants.{page_grant}
 use Rattle.gv_private.specs.Inputs.{answer}
+use Rattle.gv_private.specs.Load.{image_in}
 use Rattle.gv_private.specs.Registers.{is_named}
 use Rattle.gv_private.specs.Roots.{with_root}
 use Rattle.gv_private.specs.Status.{events_given}
@@ -53,19 +55,23 @@ abbrev pub is_reset : Event → Bool
 is_reset (Reset guest) = true
 is_reset event = false
 
+-- all of a device in failsafe
+abbrev pub IsFailed : PrivateDevice → Type 0
+IsFailed p = p ≡ failed p
+
 -- In failsafe nothing but memory changes until a function reset, and nothing but a reset ends failsafe.
 abbrev pub OnlyMemoryChanges : Type 0
-OnlyMemoryChanges = (p : PrivateDevice) (event : Event) → p ≡ failed p → is_reset event ≡ false → (answer p event).left ≡ record p { memory = (answer p event).left.memory }
+OnlyMemoryChanges = (p : PrivateDevice) (event : Event) → IsFailed p → is_reset event ≡ false → (answer p event).left ≡ record p { memory = (answer p event).left.memory }
 
 abbrev pub FailsafeStays : Type 0
-FailsafeStays = (p : PrivateDevice) (event : Event) → p ≡ failed p → is_reset event ≡ false → (answer p event).left ≡ failed (answer p event).left
+FailsafeStays = (p : PrivateDevice) (event : Event) → IsFailed p → is_reset event ≡ false → IsFailed (answer p event).left
 
 -- The guest is told a reason exactly where it enters failsafe, and then it is as after a function reset, in failsafe.
 -- Any other event but a reset leaves failsafe as it was.
 abbrev pub FailsafeIsTold : Type 0
 FailsafeIsTold =
     (p : PrivateDevice) (event : Event) → is_reset event ≡ false
-    → MatchOption (answer p event).reply.failsafe ((answer p event).left.failsafe ≡ p.failsafe) (λ reason. (answer p event).left ≡ failed (answer p event).left)
+    → MatchOption (answer p event).reply.failsafe ((answer p event).left.failsafe ≡ p.failsafe) (λ reason. IsFailed (answer p event).left)
 
 -- ---- elements at work
 
@@ -148,16 +154,17 @@ UngrantedIsUntouched =
 abbrev pub named_by : PrivateDevice → ℕ → Option ℕ
 named_by p page = global_grant p.ranges (length p.memory) nothing_guarded (entry_of p.ranges p.entries) page
 
--- A frame that no entry of an owned page names, and that is no live table, nor would be one with another root.
-pub record IsUnnamed (p : PrivateDevice) (frame : ℕ) : Type 0 where
+-- A frame that no entry of an owned page names, and that is no live table, nor will be one when the root of the next
+-- element is announced.
+pub record IsUnnamed (p : PrivateDevice) (engine frame : ℕ) : Type 0 where
   pub table : is_guarded p.memory p.roots frame ≡ false
-  pub announced : (root : ℕ) → is_guarded p.memory (with_root p.roots root) frame ≡ false
+  pub announced : (image : Image) → image_in p (context_page (p.engines engine)) ≡ Ok image → is_guarded p.memory (with_root p.roots image.root) frame ≡ false
   pub global : (page : ℕ) → named_by p page ≢ Some frame
 
 -- A turn of an engine without an element at work neither reads nor writes such a frame.
 abbrev pub UnnamedIsUntouched : Type 0
 UnnamedIsUntouched =
-    (p : PrivateDevice) (engine frame : ℕ) (words : List ℕ) → (p.engines engine).element ≡ None → IsUnnamed p frame
+    (p : PrivateDevice) (engine frame : ℕ) (words : List ℕ) → (p.engines engine).element ≡ None → IsUnnamed p engine frame
     → turned (with_frame p frame words) engine ≡ turned_with_frame (turned p engine) frame words
 
 -- A turn of an engine without an element at work, which loads one or is idle, writes no memory at all.
