@@ -10,7 +10,7 @@ use Rattle.gv_cmd.proofs.Simulation.{effects_agree}
 use Rattle.gv_entry.specs.SameTables.{SameTables}
 use Rattle.gv_entry.proofs.SameTables.{same_tables_chain}
 use Rattle.gv_private.specs.Grants.{frame_read, frame_written}
-use Rattle.gv_private.specs.Space.{PrivateSpace, writes, dword_written, byte_written, with_byte, word_at, bytes_written, private_operations}
+use Rattle.gv_private.specs.Space.{PrivateSpace, writes, operand_written, byte_written, with_byte, word_at, bytes_written, private_operations}
 use Rattle.gv_private.proofs.Granted.{IsFree, page-free, write-free, tables-same, frame_written-tables}
 
 -- what a space can become
@@ -34,7 +34,7 @@ pub writes-free : (s : PrivateSpace) (global : Bool) (at : ℕ) → IsFree s.mem
 writes-free s true at = page-free s.ranges s.entries s.memory s.roots _
 writes-free s false at = write-free s.memory s.roots s.root at
 
-dword-reached : (start s : PrivateSpace) (global : Bool) (at value : ℕ) → Reached start s → Reached start (dword_written s global at value)
+dword-reached : (start s : PrivateSpace) (global : Bool) (at value : ℕ) → Reached start s → Reached start (operand_written s global at value)
 dword-reached start s global at value before =
     reached-memory start s (frame_written s.memory Four at value (writes s global at)) (frame_written-tables s.memory s.roots Four at value (writes s global at) (writes-free s global at)) before
 

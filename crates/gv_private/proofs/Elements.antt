@@ -14,15 +14,7 @@ use Rattle.gv_private.specs.Device.{Engine, PrivateDevice, Working, put, with_en
 use Rattle.gv_private.specs.Laws.{is_engine_reset, dword_resets, write_resets, ElementStays, HasRoots, FirstHasRoots, RootsStay}
 use Rattle.gv_private.specs.Registers.{is_named}
 use Rattle.gv_private.specs.Roots.{with_root, without_root, works_over, is_at_work}
-use Rattle.gv_private.proofs.Keeps.{KeptByEvents, KeptByAccesses, KeptByTurns, Anything, MayWrite, write-keeps, turn-keeps, event-always}
-
-or_first : (a b : Bool) → a ≡ true → (a || b) ≡ true
-or_first true b h = refl
-or_first false b h = cc
-
-or_second : (a b : Bool) → b ≡ true → (a || b) ≡ true
-or_second true b h = refl
-or_second false b h = h
+use Rattle.gv_private.proofs.Keeps.{or_first, or_second, KeptByEvents, KeptByAccesses, KeptByTurns, Anything, MayWrite, write-keeps, turn-keeps, event-always}
 
 -- ---- the element of an engine, after another one was changed or in another respect
 

@@ -1,7 +1,7 @@
 -- The definitions on one small device, worked out by hand: the global pages 0 to 4 map the frames 0 to 4; the context
 -- is at page 0, its ring at page 2, the status page is page 3; frame 8 is a root over the frames 9 to 11, whose pages
 -- 0, 1 and 2 are the frames 12, 13 and 14.
-use Rattle.std.proofs.Common.{◌≡◌, ℕ, ◌*◌, ◌^◌, true, false, List, [], ◌∷◌, ◌++◌, Option, None, Some, cond, eqb, replicate, set, refl}
+use Rattle.std.proofs.Common.{Option, Bool, true, false, ◌≡◌, ℕ, ◌*◌, ◌^◌, List, [], ◌∷◌, ◌++◌, None, Some, cond, eqb, replicate, set, refl, ap, ◌∙◌}
 use Rattle.gv_types.specs.declared.event.Place.TheVariants as places
 use Rattle.gv_types.specs.declared.event.Width.TheVariants.{Four, Eight}
 use Rattle.gv_types.specs.declared.reply.Answer.TheVariants.{Moved, Kept}
@@ -19,7 +19,13 @@ use Rattle.gv_fetch.specs.Left.{Fetched, At, begun}
 use Rattle.gv_irq.specs.Irq.{Interrupts, reset_irq}
 use Rattle.gv_private.specs.Device.{Engine, PrivateDevice, Working, put, reset_engine, quietly, fails, failed}
 use Rattle.gv_private.specs.Access.{value_read, value_written}
-use Rattle.gv_private.specs.Grants.{move_answer}
+use Rattle.gv_entry.specs.Entry.{global_frame}
+use Rattle.gv_entry.specs.Global.{entry_at, place_of}
+use Rattle.gv_entry.specs.Grants.{unless}
+use Rattle.gv_entry.specs.Ranges.{owns_page}
+use Rattle.gv_entry.specs.Tables.{is_guarded}
+use Rattle.gv_private.specs.Grants.{page_grant, move_answer}
+use Rattle.gv_private.specs.Laws.{IsUngranted}
 use Rattle.gv_private.specs.Space.{bytes_written}
 use Rattle.gv_private.specs.Status.{events_given}
 use Rattle.gv_private.specs.Submission.{list_submitted, port_written}
@@ -446,3 +452,34 @@ a_named_table_moves = refl
 
 all_move_in_failsafe : move_answer (failed plain) 2 ≡ Moved
 all_move_in_failsafe = refl
+
+-- ---- a frame that no grant gives: frame 1, where no page is owned and the root has no entries
+
+abbrev two_frames : PrivateDevice
+two_frames = record (device (empty ∷ zeros ∷ []) (0 ∷ []) 1 (busy (record (at_work none) { root = 0 }))) {
+  ranges = record { low = record { first = 0; pages = 0 }; high = record { first = 0x10000; pages = 0 } };
+  entries = [];
+}
+
+no_entry : (place : Option ℕ) → entry_at [] place ≡ 0
+no_entry None = refl
+no_entry (Some place) = refl
+
+abbrev no_frame : Option ℕ
+no_frame = None
+
+no_page : (b : Bool) → cond b no_frame no_frame ≡ no_frame
+no_page true = refl
+no_page false = refl
+
+no_grant : (page : ℕ) → page_grant two_frames page ≡ None
+no_grant page =
+    ap (λ entry. cond (owns_page two_frames.ranges page) (unless (is_guarded two_frames.memory two_frames.roots) (global_frame entry 2)) None) (no_entry (place_of two_frames.ranges page))
+    ∙ no_page (owns_page two_frames.ranges page)
+
+nobody_reaches_it : IsUngranted two_frames (record (at_work none) { root = 0 }) 1
+nobody_reaches_it = record {
+  table = refl;
+  global = λ page is. let none_there = no_grant page in cc;
+  process = λ at is. cc;
+}

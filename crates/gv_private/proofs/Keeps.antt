@@ -3,6 +3,7 @@ use Rattle.std.proofs.Common.{◌≡◌, ℕ, ◌+◌, ◌*◌, ◌/◌, ◌%◌
 use Rattle.std.specs.Prelude.{IfOk}
 use Rattle.std.proofs.lemmas.Bool.{eq-eqb, eqb-true}
 use Rattle.std.proofs.lemmas.List.{length-set}
+use Rattle.std.specs.Option.{option_or}
 use Rattle.gv_types.specs.Memory.{Memory, memory_write, with_value}
 use Rattle.gv_types.specs.declared.event.Event.{Event}
 use Rattle.gv_types.specs.declared.event.Event.TheVariants.{Read, Write, Turn, Switch, Move, Reset}
@@ -34,7 +35,7 @@ use Rattle.gv_regs.specs.Table.{target_at, engines_reset}
 use Rattle.gv_regs.specs.declared.effect.Target.{Target}
 use Rattle.gv_regs.specs.declared.effect.Target.TheVariants.{Own, Elsp, Status as StatusPair, StatusPointer, General, Interrupts as InterruptTarget, EngineReset, Notify, Absent}
 use Rattle.gv_private.specs.Access.{table_at, page_at, entry_after, table_written, aperture_frame, aperture_written, memory_written, dwords_written, range_written, value_written}
-use Rattle.gv_private.specs.Device.{Engine, PrivateDevice, Working, Written, put, with_engine, with_slots, with_element, first_of_two, and_then, quietly, fails, failed, function_reset}
+use Rattle.gv_private.specs.Device.{Engine, PrivateDevice, Working, Written, put, with_engine, with_slots, with_element, and_then, quietly, fails, failed, function_reset}
 use Rattle.gv_private.specs.Inputs.{answer}
 use Rattle.gv_private.specs.Grants.{frame_written, global_written}
 use Rattle.gv_private.specs.Load.{global_space, image_in, work_of, fetched_into, loaded_by, loaded}
@@ -93,7 +94,7 @@ either-keeps P false x y first second = second
 
 pub and_then-keeps : (P : PrivateDevice → Type 0) (first : Written) (next : PrivateDevice → Written) → P first.device → ((q : PrivateDevice) → P q → P (next q).device) → P (and_then first next).device
 and_then-keeps P first next here there =
-    either-keeps P first.device.failsafe first (record (next first.device) { irq = first_of_two first.irq (next first.device).irq }) here (there first.device here)
+    either-keeps P first.device.failsafe first (record (next first.device) { irq = option_or first.irq (next first.device).irq }) here (there first.device here)
 
 -- ---- events
 
@@ -204,11 +205,11 @@ turn_either : (P : PrivateDevice → Type 0) (b : Bool) (x y : Turned) → P x.l
 turn_either P true x y first second = first
 turn_either P false x y first second = second
 
-or_first : (a b : Bool) → a ≡ true → (a || b) ≡ true
+pub or_first : (a b : Bool) → a ≡ true → (a || b) ≡ true
 or_first true b h = refl
 or_first false b h = cc
 
-or_second : (a b : Bool) → b ≡ true → (a || b) ≡ true
+pub or_second : (a b : Bool) → b ≡ true → (a || b) ≡ true
 or_second true b h = refl
 or_second false b h = h
 

@@ -15,7 +15,7 @@ use Rattle.gv_fetch.specs.Left.{is_done, is_privileged, stands_of}
 use Rattle.std.specs.Prelude.{IfOk}
 use Rattle.gv_entry.specs.Ranges.{is_in}
 use Rattle.gv_private.specs.Access.{aperture_frame, aperture_written}
-use Rattle.gv_private.specs.Device.{PrivateDevice, Working, context_page, quietly, fails}
+use Rattle.gv_private.specs.Device.{PrivateDevice, Working, front_context, quietly, fails}
 use Rattle.gv_private.specs.Grants.{page_grant, frame_written}
 use Rattle.gv_private.specs.Laws.{TurnsKeepTables, EventsKeepTables, AperturesKeepTables}
 use Rattle.gv_private.specs.Load.{loaded}
@@ -69,7 +69,7 @@ finished-same : (p : PrivateDevice) (engine : ℕ) (w : Working) → SameTables 
 finished-same p engine w =
     (events-keep (Keeps p) (kept p) (without_front (tail_written p engine w) engine) engine (completion_events (p.engines engine).slots.running (p.engines engine).slots.pending)
     (record {
-      tables = written-keeps p p ((context_page (p.engines engine) + 1) * 4096 + 4 * 0x05) w.tail (record { tables = tables-same p.memory p.roots; roots = refl });
+      tables = written-keeps p p (((front_context (p.engines engine)).page + 1) * 4096 + 4 * 0x05) w.tail (record { tables = tables-same p.memory p.roots; roots = refl });
       roots = refl;
     })).tables
 

@@ -1,6 +1,7 @@
 -- A guest is told a reason exactly where it enters failsafe.
 use Rattle.std.proofs.Common.{◌≡◌, ℕ, ◌+◌, ◌*◌, ◌/◌, ◌%◌, ◌^◌, Bool, true, false, not, List, [], ◌∷◌, Option, None, Some, Result, Ok, Err, cond, length, refl, ap, eqb, ltb}
 use Rattle.std.specs.Prelude.{MatchOption, IfOk}
+use Rattle.std.specs.Option.{option_or}
 use Rattle.gv_types.specs.Memory.{memory_write}
 use Rattle.gv_types.specs.declared.event.Event.TheVariants.{Read, Write, Turn, Switch, Move, Reset}
 use Rattle.gv_types.specs.declared.event.Place.{Place}
@@ -23,7 +24,7 @@ use Rattle.gv_regs.specs.Table.{target_at}
 use Rattle.gv_regs.specs.declared.effect.Target.{Target}
 use Rattle.gv_regs.specs.declared.effect.Target.TheVariants.{Own, Elsp, Status as StatusPair, StatusPointer, General, Interrupts, EngineReset, Notify, Absent}
 use Rattle.gv_private.specs.Access.{table_at, table_written, aperture_written, dwords_written, range_written, value_written}
-use Rattle.gv_private.specs.Device.{PrivateDevice, Working, Written, with_slots, first_of_two, and_then, quietly, fails, failed}
+use Rattle.gv_private.specs.Device.{PrivateDevice, Working, Written, with_slots, and_then, quietly, fails, failed}
 use Rattle.gv_private.specs.Laws.{FailsafeIsTold}
 use Rattle.gv_private.specs.Load.{loaded}
 use Rattle.gv_private.specs.Registers.{dword_written_by, dword_written}
@@ -53,7 +54,7 @@ module _ (p : PrivateDevice) where
   not_failed None q live told = told
   not_failed (Some r) q live told = let on = ap (λ (t : PrivateDevice). t.failsafe) told in cc
 
-  then_by : (first : Written) (next : PrivateDevice → Written) (b : Bool) → first.device.failsafe ≡ b → Told first → ((q : PrivateDevice) → Stays q → Told (next q)) → Told (cond b first (record (next first.device) { irq = first_of_two first.irq (next first.device).irq }))
+  then_by : (first : Written) (next : PrivateDevice → Written) (b : Bool) → first.device.failsafe ≡ b → Told first → ((q : PrivateDevice) → Stays q → Told (next q)) → Told (cond b first (record (next first.device) { irq = option_or first.irq (next first.device).irq }))
   then_by first next true is told further = told
   then_by first next false is told further = further first.device (not_failed first.reason first.device is told)
 

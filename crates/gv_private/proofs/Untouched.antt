@@ -2,6 +2,7 @@
 -- does the same.
 use Rattle.std.proofs.Common.{◌≡◌, ◌≢◌, ℕ, suc, zero, ◌+◌, ◌*◌, ◌/◌, ◌%◌, ◌^◌, Bool, true, false, not, ◌&&◌, List, [], ◌∷◌, Option, None, Some, Result, Ok, Err, cond, get_or, set, refl, sym, ap, ◌∙◌, subst}
 use Rattle.std.proofs.lemmas.List.{get_or-set_other}
+use Rattle.std.specs.Option.{option_or}
 use Rattle.gv_types.specs.Memory.{Memory, word_of, with_word, half_of, with_half}
 use Rattle.gv_types.specs.declared.event.Width.{Width}
 use Rattle.gv_types.specs.declared.event.Width.TheVariants.{Four, Eight}
@@ -28,11 +29,11 @@ use Rattle.gv_entry.proofs.SameTables.{tables_decide, unguarded_frame_keeps_tabl
 use Rattle.gv_fetch.specs.Left.{front, live_command, is_done, is_privileged, stands_of}
 use Rattle.std.specs.Prelude.{IfOk}
 use Rattle.std.specs.List.{filter}
-use Rattle.gv_private.specs.Device.{PrivateDevice, Working, Written, and_then, first_of_two, context_page, quietly, fails}
+use Rattle.gv_private.specs.Device.{PrivateDevice, Working, Written, and_then, front_context, quietly, fails}
 use Rattle.gv_private.specs.Grants.{page_grant_in, page_grant, frame_read, frame_written, global_written}
 use Rattle.gv_private.specs.Laws.{with_frame, turned_with_frame, UngrantedIsUntouched, LoadsWriteNothing}
 use Rattle.gv_private.specs.Load.{loaded}
-use Rattle.gv_private.specs.Space.{PrivateSpace, space_of, reads, writes, dword_read, dword_written, byte_read, byte_written, byte_of, with_byte, word_at, bytes_written, colour_byte, private_operations}
+use Rattle.gv_private.specs.Space.{PrivateSpace, space_of, reads, writes, operand_read, operand_written, byte_read, byte_written, byte_of, with_byte, word_at, bytes_written, colour_byte, private_operations}
 use Rattle.gv_private.specs.Status.{bit_raised, bits_raised, status_at, in_ring, event_given, events_given, context_switch, user_interrupt, notify}
 use Rattle.gv_private.specs.Turn.{Turned, turned_as, front_words, front_effect, ran_after, run_by, command_by, tail_written, without_front, finished, load_by, next_by, turned_by}
 use Rattle.gv_private.proofs.Effects.{May, may_do, writes-free}
@@ -146,7 +147,7 @@ module _ (frame : ℕ) (words : List ℕ) where
       ap (λ g. frame_written (set s.memory frame words) width where_at value g) (writes_same s global at spared)
       ∙ write_other s.memory frame words width where_at value (writes s global at) (writes_other s global at spared)
 
-  dword_same : (s : PrivateSpace) (global : Bool) (at value : ℕ) → Spared s → dword_written (other_words s) global at value ≡ other_words (dword_written s global at value)
+  dword_same : (s : PrivateSpace) (global : Bool) (at value : ℕ) → Spared s → operand_written (other_words s) global at value ≡ other_words (operand_written s global at value)
   dword_same s global at value spared = ap (λ m. record s { memory = m }) (store_same s Four global at at value spared)
 
   byte_same : (s : PrivateSpace) (at value : ℕ) → Spared s → byte_written (other_words s) at value ≡ other_words (byte_written s at value)
@@ -159,9 +160,9 @@ module _ (frame : ℕ) (words : List ℕ) where
     pub equal : y ≡ other_words x
     pub spared : Spared x
 
-  twins-dword : (x y : PrivateSpace) (global : Bool) (at value : ℕ) → Twins x y → Twins (dword_written x global at value) (dword_written y global at value)
+  twins-dword : (x y : PrivateSpace) (global : Bool) (at value : ℕ) → Twins x y → Twins (operand_written x global at value) (operand_written y global at value)
   twins-dword x y global at value twins = record {
-    equal = ap (λ s. dword_written s global at value) twins.equal ∙ dword_same x global at value twins.spared;
+    equal = ap (λ s. operand_written s global at value) twins.equal ∙ dword_same x global at value twins.spared;
     spared = spared-memory x (frame_written x.memory Four at value (writes x global at)) (frame_written-tables x.memory x.roots Four at value (writes x global at) (writes-free x global at)) twins.spared;
   }
 
@@ -188,7 +189,7 @@ module _ (frame : ℕ) (words : List ℕ) where
 
   twins-simulate : Simulates private_operations private_operations Twins May
   twins-simulate = record {
-    load_gives = λ x y global at twins may. sym (ap (λ s. dword_read s global at) twins.equal ∙ access_same x Four global at at twins.spared);
+    load_gives = λ x y global at twins may. sym (ap (λ s. operand_read s global at) twins.equal ∙ access_same x Four global at at twins.spared);
     load_leaves = λ x y global at twins may. twins;
     stored = λ x y global at value twins may. twins-dword x y global at value twins;
     row_copied = λ x y to from n twins. twins-copied x y to from n twins;
@@ -237,9 +238,9 @@ module _ (frame : ℕ) (words : List ℕ) where
       (ap (λ g. frame_written (set q.memory frame words) Four at value g) (page_same q.ranges q.entries q.memory (set q.memory frame words) q.roots (at / 4096) same)
       ∙ write_other q.memory frame words Four at value (page_grant q (at / 4096)) (apart.global (at / 4096)))
 
-  then_by : (b : Bool) (first : Written) (next : PrivateDevice → Written) → next (other first.device) ≡ other_left (next first.device) → cond b (other_left first) (record (next (other first.device)) { irq = first_of_two first.irq (next (other first.device)).irq }) ≡ other_left (cond b first (record (next first.device) { irq = first_of_two first.irq (next first.device).irq }))
+  then_by : (b : Bool) (first : Written) (next : PrivateDevice → Written) → next (other first.device) ≡ other_left (next first.device) → cond b (other_left first) (record (next (other first.device)) { irq = option_or first.irq (next (other first.device)).irq }) ≡ other_left (cond b first (record (next first.device) { irq = option_or first.irq (next first.device).irq }))
   then_by true first next same = refl
-  then_by false first next same = ap (λ (t : Written). record t { irq = first_of_two first.irq t.irq }) same
+  then_by false first next same = ap (λ (t : Written). record t { irq = option_or first.irq t.irq }) same
 
   then_same : (first : Written) (next : PrivateDevice → Written) → next (other first.device) ≡ other_left (next first.device) → and_then (other_left first) next ≡ other_left (and_then first next)
   then_same first next same = then_by first.device.failsafe first next same
@@ -321,12 +322,12 @@ module _ (frame : ℕ) (words : List ℕ) where
   words_same : (p : PrivateDevice) (engine : ℕ) (w : Working) → Spared (space_of p engine w.root) → front_words (other p) engine w ≡ front_words p engine w
   words_same p engine w spared =
       let s = space_of p engine w.root in
-      let same : dword_read (other_words s) false ≡ dword_read s false = λ i at. access_same s Four false at at spared i in
+      let same : operand_read (other_words s) false ≡ operand_read s false = λ i at. access_same s Four false at at spared i in
       ap (λ (read : ℕ → ℕ). front (live_command read) w.left) same
 
   finished_same : (p : PrivateDevice) (engine : ℕ) (w : Working) → Apart p → finished (other p) engine w ≡ other_left (finished p engine w)
   finished_same p engine w apart =
-      let at = (context_page (p.engines engine) + 1) * 4096 + 4 * 0x05 in
+      let at = ((front_context (p.engines engine)).page + 1) * 4096 + 4 * 0x05 in
       let events = completion_events (p.engines engine).slots.running (p.engines engine).slots.pending in
       let after = apart-written p at w.tail apart in
       ap (λ q. events_given (without_front q engine) engine events) (written_same p at w.tail apart)

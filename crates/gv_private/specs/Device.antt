@@ -1,11 +1,13 @@
 -- One guest's private device, as if nothing were shared: all that it holds, and its resets. It has one memory,
 -- and the guest's own tables are read at every access.
 use Rattle.std.specs.Prelude.{ℕ, List, [], ◌∷◌, Bool, true, false, Option, None, Some, ◌==◌, if◌then◌else◌}
+use Rattle.std.specs.Option.{option_or}
 use Rattle.gv_types.specs.Memory.{Memory, zero_memory}
 use Rattle.gv_types.specs.declared.ranges.Ranges.{Ranges}
 use Rattle.gv_types.specs.declared.reply.Reason.{Reason}
 use Rattle.gv_entry.specs.Global.{zero_entries}
 use Rattle.gv_ctx.specs.Descriptor.{descriptor_of}
+use Rattle.gv_ctx.specs.declared.descriptor.Descriptor.{Descriptor}
 use Rattle.gv_csb.specs.Slots.{Execlists, reset_execlists}
 use Rattle.gv_irq.specs.Irq.{Interrupts, reset_irq}
 use Rattle.gv_regs.specs.Registers.{reset_registers}
@@ -58,13 +60,9 @@ abbrev pub front_descriptor : List ℕ → ℕ
 front_descriptor [] = 0
 front_descriptor (descriptor ∷ more) = descriptor
 
--- the global page of its context
-abbrev pub context_page : Engine → ℕ
-context_page e = (descriptor_of (front_descriptor e.slots.running)).page
-
--- the number of its context
-abbrev pub context_number : Engine → ℕ
-context_number e = (descriptor_of (front_descriptor e.slots.running)).number
+-- what it says: the global page of its context, the context's number, and its addressing mode
+abbrev pub front_context : Engine → Descriptor
+front_context e = descriptor_of (front_descriptor e.slots.running)
 
 -- whether the list has another element behind it
 abbrev pub has_another_in : List ℕ → Bool
@@ -123,13 +121,8 @@ quietly p = record { device = p; irq = None; reason = None }
 abbrev pub fails : PrivateDevice → Reason → Written
 fails p reason = record { device = failed p; irq = None; reason = Some reason }
 
--- the first of two that is there
-abbrev pub first_of_two : {A : Type 0} → Option A → Option A → Option A
-first_of_two None second = second
-first_of_two (Some x) second = Some x
-
 -- One after another. A guest that fails in the first has no second.
 abbrev pub and_then : Written → (PrivateDevice → Written) → Written
 and_then first next =
     if first.device.failsafe then first
-    else record (next first.device) { irq = first_of_two first.irq (next first.device).irq }
+    else record (next first.device) { irq = option_or first.irq (next first.device).irq }

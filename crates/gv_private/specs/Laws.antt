@@ -19,7 +19,7 @@ use Rattle.gv_entry.specs.Grants.{global_grant, nothing_guarded, read_grant}
 use Rattle.gv_entry.specs.SameTables.{has, SameMeaning}
 use Rattle.gv_entry.specs.Tables.{is_guarded}
 use Rattle.gv_private.specs.Access.{aperture_written}
-use Rattle.gv_private.specs.Device.{PrivateDevice, Working, new_device, failed, context_page, quietly}
+use Rattle.gv_private.specs.Device.{PrivateDevice, Working, new_device, failed, front_context, quietly}
 use Rattle.gv_private.specs.Grants.{page_grant}
 use Rattle.gv_private.specs.Inputs.{answer}
 use Rattle.gv_private.specs.Load.{image_in}
@@ -158,7 +158,7 @@ named_by p page = global_grant p.ranges (length p.memory) nothing_guarded (entry
 -- element is announced.
 pub record IsUnnamed (p : PrivateDevice) (engine frame : ℕ) : Type 0 where
   pub table : is_guarded p.memory p.roots frame ≡ false
-  pub announced : (image : Image) → image_in p (context_page (p.engines engine)) ≡ Ok image → is_guarded p.memory (with_root p.roots image.root) frame ≡ false
+  pub announced : (image : Image) → image_in p (front_context (p.engines engine)).page ≡ Ok image → is_guarded p.memory (with_root p.roots image.root) frame ≡ false
   pub global : (page : ℕ) → named_by p page ≢ Some frame
 
 -- A turn of an engine without an element at work neither reads nor writes such a frame.

@@ -41,11 +41,11 @@ writes s false at = write_grant s.memory s.roots s.root at
 
 -- ---- dwords, and bytes per process; without a grant they read 0 and aren't written
 
-abbrev pub dword_read : PrivateSpace → Bool → ℕ → ℕ
-dword_read s global at = frame_read s.memory Four at (reads s global at)
+abbrev pub operand_read : PrivateSpace → Bool → ℕ → ℕ
+operand_read s global at = frame_read s.memory Four at (reads s global at)
 
-abbrev pub dword_written : PrivateSpace → Bool → ℕ → ℕ → PrivateSpace
-dword_written s global at value = record s { memory = frame_written s.memory Four at value (writes s global at) }
+abbrev pub operand_written : PrivateSpace → Bool → ℕ → ℕ → PrivateSpace
+operand_written s global at value = record s { memory = frame_written s.memory Four at value (writes s global at) }
 
 -- a byte of a word, least first
 abbrev pub byte_of : ℕ → ℕ → ℕ
@@ -78,9 +78,9 @@ colour_byte colour depth k = slice_index (to_le_bytes w32 colour) (k % max depth
 -- count modulo 2^48.
 abbrev pub private_operations : Operations PrivateSpace
 private_operations = record {
-  load_gives = λ s global at. dword_read s global at;
+  load_gives = λ s global at. operand_read s global at;
   load_leaves = λ s global at. s;
-  stored = λ s global at value. dword_written s global at value;
+  stored = λ s global at value. operand_written s global at value;
   row_copied = λ s to from n. bytes_written s (to % 2 ^ 48) (λ k. byte_read s (from % 2 ^ 48 + k)) n;
   row_filled = λ s to n colour depth. bytes_written s (to % 2 ^ 48) (colour_byte colour depth) n;
   general_gives = λ s n. half_of (s.general (n / 2)) (4 * n);

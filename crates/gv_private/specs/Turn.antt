@@ -10,10 +10,10 @@ use Rattle.gv_cmd.specs.Effect.{Effect, effect}
 use Rattle.gv_cmd.specs.declared.command.Unlisted.{Unlisted}
 use Rattle.gv_csb.specs.Slots.{completed, completion_events}
 use Rattle.gv_fetch.specs.Left.{front, live_command, is_done, is_privileged, moved, stands_of}
-use Rattle.gv_private.specs.Device.{PrivateDevice, Working, Written, with_slots, with_element, context_page, quietly, fails}
+use Rattle.gv_private.specs.Device.{PrivateDevice, Working, Written, with_slots, with_element, front_context, quietly, fails}
 use Rattle.gv_private.specs.Grants.{global_written}
 use Rattle.gv_private.specs.Load.{loaded}
-use Rattle.gv_private.specs.Space.{PrivateSpace, space_of, with_space, dword_read, private_operations}
+use Rattle.gv_private.specs.Space.{PrivateSpace, space_of, with_space, operand_read, private_operations}
 use Rattle.gv_private.specs.Status.{command_raised, events_given}
 
 -- A command that ran: on which engine, for which guest, and its shape, which is its dwords without the address of
@@ -37,7 +37,7 @@ turned_as outcome left = record { left = left; outcome = outcome; ran = [] }
 -- The front command's dwords: those of the first item of the innermost level, or what stands at a live address, read
 -- by the per-process grants.
 abbrev pub front_words : PrivateDevice → ℕ → Working → List ℕ
-front_words p engine w = front (live_command (dword_read (space_of p engine w.root) false)) w.left
+front_words p engine w = front (live_command (operand_read (space_of p engine w.root) false)) w.left
 
 -- what a command does to the space of the element
 abbrev pub front_effect : PrivateDevice → ℕ → Working → List ℕ → Effect PrivateSpace
@@ -68,7 +68,7 @@ command_by p engine w (Ok (ws, dwords)) =
 
 -- The tail that the image had at the load goes to its dword 0x05 through the global table.
 abbrev pub tail_written : PrivateDevice → ℕ → Working → PrivateDevice
-tail_written p engine w = global_written p ((context_page (p.engines engine) + 1) * 4096 + 4 * 0x05) w.tail
+tail_written p engine w = global_written p (((front_context (p.engines engine)).page + 1) * 4096 + 4 * 0x05) w.tail
 
 -- The element is gone from its list, and where that was its last a pending list becomes the running one.
 abbrev pub without_front : PrivateDevice → ℕ → PrivateDevice
