@@ -1,0 +1,12 @@
+pub mod Device
+pub mod Grants
+pub mod Status
+pub mod Submission
+pub mod Roots
+pub mod Registers
+pub mod Access
+pub mod Space
+pub mod Load
+pub mod Turn
+pub mod Inputs
+pub mod Laws
