@@ -56,12 +56,6 @@ all_left all before start = record {
   ran = record { done = []; ran = record { journal = sym (append-nil start.journal); strays = refl }; front = refl };
 }
 
--- the whole course was done
-pub record Over (all : Course Machine Came) (before : List ℕ) (start : Device) (m : Machine) (now : List ℕ) (d : Device) : Type 0 where
-  pub machine : m ≡ all.left
-  pub report : now ≡ before ++ text_of (said_all all.came)
-  pub ran : Ran start d (ran_all all.came)
-
 -- these commands ran, one after another
 ran_then : {d e f : Device} {xs ys : List Entry} → Ran d e xs → Ran e f ys → Ran d f (xs ++ ys)
 ran_then {d} {e} {f} {xs} {ys} first second = record {
@@ -100,19 +94,18 @@ module _ (all : Course Machine Came) (before : List ℕ) (start : Device) where
       };
     }
 
-  module _ (c : Course Machine Came) (now : List ℕ) (d : Device) (kept : Left all before start c now d) where
-    pub left-part : RanPart start d (ran_all all.came)
-    left-part = record { left = ran_all c.came; part = kept.ran }
+  pub left-part : (c : Course Machine Came) (now : List ℕ) (d : Device) → Left all before start c now d → RanPart start d (ran_all all.came)
+  left-part c now d kept = record { left = ran_all c.came; part = kept.ran }
 
-    -- nothing is left
-    pub over : (m : Machine) → c ≡ record { left = m; came = [] } → Over all before start m now d
-    over m is =
-        let whole : kept.ran.done ≡ ran_all all.came = sym (append-nil kept.ran.done) ∙ sym (ap (λ (c : Course Machine Came). kept.ran.done ++ ran_all c.came) is) ∙ kept.ran.front in
-        record {
-          machine = sym (ap (λ (c : Course Machine Came). c.left) is) ∙ kept.machine;
-          report = said_none now ∙ sym (ap (λ (c : Course Machine Came). now ++ text_of (said_all c.came)) is) ∙ kept.report;
-          ran = subst (Ran start d) whole kept.ran.ran;
-        }
+-- nothing is left of a course
+pub over : (all c : Course Machine Came) (start : Device) (old : Run) (d : Device) (new : Run) → Left all old.report.items start c new.report.items d → c ≡ record { left = machine_in d first_owner new.guests.items; came = [] } → Plays all start old d new
+over all c start old d new kept is =
+    let whole : kept.ran.done ≡ ran_all all.came = sym (append-nil kept.ran.done) ∙ sym (ap (λ (c : Course Machine Came). kept.ran.done ++ ran_all c.came) is) ∙ kept.ran.front in
+    record {
+      machine = sym (ap (λ (c : Course Machine Came). c.left) is) ∙ kept.machine;
+      report = said_none new.report.items ∙ sym (ap (λ (c : Course Machine Came). new.report.items ++ text_of (said_all c.came)) is) ∙ kept.report;
+      ran = subst (Ran start d) whole kept.ran.ran;
+    }
 
 -- what ran is all of it, as far as that goes
 pub ran-whole : {d e : Device} {xs : List Entry} → Ran d e xs → RanPart d e xs
@@ -133,16 +126,6 @@ pub whole_left : (m0 : Machine) (before : List ℕ) (start : Device) (all : Scri
 whole_left m0 before start all = record { ending = refl; course = all_left (course_of m0 all) before start }
 
 module _ (m0 m : Machine) (before now : List ℕ) (start d : Device) (all left : Script) (kept : LeftOf m0 before start all m now d left) where
-  module _ (ending : Ending) (is : left ≡ ends ending) where
-    none : course_of m left ≡ record { left = m; came = [] }
-    none = ap (course_of m) is
-
-    pub end-ending : ending ≡ all.ending
-    end-ending = sym (ap (λ (s : Script). s.ending) is) ∙ kept.ending
-
-    pub end-over : Over (course_of m0 all) before start m now d
-    end-over = over (course_of m0 all) before start (course_of m left) now d kept.course m none
-
   module _ (line : Line) (rest : Script) (is : left ≡ onto_script line rest) where
     first_left : Left (course_of m0 all) before start (onto (line_course m line) (course_of (line_course m line).left rest)) now d
     first_left = subst (λ (c : Course Machine Came). Left (course_of m0 all) before start c now d) (ap (course_of m) is) kept.course
@@ -156,6 +139,10 @@ module _ (m0 m : Machine) (before now : List ℕ) (start d : Device) (all left :
 
     pub line-began : (e : Device) → RanPart d e (ran_all (line_course m line).came) → RanPart start e (ran_all (course_of m0 all).came)
     line-began e part = stops_within (course_of m0 all) before start (line_course m line) (course_of (line_course m line).left rest) now d first_left e part
+
+-- nothing is left of a script
+pub end-over : (m0 : Machine) (start : Device) (all : Script) (old : Run) (d : Device) (new : Run) (left : Script) → LeftOf m0 old.report.items start all (machine_in d first_owner new.guests.items) new.report.items d left → (ending : Ending) → left ≡ ends ending → Plays (course_of m0 all) start old d new
+end-over m0 start all old d new left kept ending is = over (course_of m0 all) _ start old d new kept.course (ap (course_of (machine_in d first_owner new.guests.items)) is)
 
 -- nothing is to be done
 pub plays_none : (d : Device) (run : Run) → Plays (record { left = machine_in d first_owner run.guests.items; came = [] }) d run d run

@@ -24,8 +24,7 @@ returns-in_default-accepted-clause-done g c =
     let n = c.loop-bytes.number in
     let rest = c.loop-bytes.rest.now in
     let is = left_refused c.args.whole run.known n rest c.in-Some.bytes.now c.in-Some.after.now c.in-Some.ensures.lines (sym c.accepted.ensures.value ∙ c.in_default-accepted.is) in
-    let all = end-over _ (machine_in (g.G.Gpu.state c.loop-bytes.gpu) first_owner run.guests.items) c.args.run.now.report.items run.report.items _ _ _ (left_of c.args.whole run.known n rest) c.loop-bytes.invariant.left (BadScript n) is in
-    record { machine = all.machine; report = all.report; ran = all.ran }
+    end-over _ (g.G.Gpu.state c.args.gpu.now) _ c.args.run.now (g.G.Gpu.state c.loop-bytes.gpu) run (left_of c.args.whole run.known n rest) c.loop-bytes.invariant.left (BadScript n) is
 
 pub returns-in_default-accepted-clause-part : goal.returns-in_default-accepted-clause-part
 returns-in_default-accepted-clause-part g c = left-part _ _ _ _ c.loop-bytes.run.report.items (g.G.Gpu.state c.loop-bytes.gpu) c.loop-bytes.invariant.left.course
@@ -37,8 +36,7 @@ returns-then-is_end-clause-done g c =
     let rest = c.loop-bytes.rest.now in
     let is = left_ended c.args.whole run.known n rest c.in-Some.bytes.now c.in-Some.after.now c.in-Some.ensures.lines c.in-Some-accepted.line
     (sym c.accepted.ensures.value ∙ c.in-Some-accepted.is) (sym c.is_end.ensures ∙ c.if-is_end.true) in
-    let all = end-over _ (machine_in (g.G.Gpu.state c.loop-bytes.gpu) first_owner run.guests.items) c.args.run.now.report.items run.report.items _ _ _ (left_of c.args.whole run.known n rest) c.loop-bytes.invariant.left Done is in
-    record { machine = all.machine; report = all.report; ran = all.ran }
+    end-over _ (g.G.Gpu.state c.args.gpu.now) _ c.args.run.now (g.G.Gpu.state c.loop-bytes.gpu) run (left_of c.args.whole run.known n rest) c.loop-bytes.invariant.left Done is
 
 pub returns-then-is_end-clause-part : goal.returns-then-is_end-clause-part
 returns-then-is_end-clause-part g c = left-part _ _ _ _ c.loop-bytes.run.report.items (g.G.Gpu.state c.loop-bytes.gpu) c.loop-bytes.invariant.left.course
@@ -49,8 +47,7 @@ returns-then-whole-clause-done g c =
     let n = c.loop-bytes.number in
     let rest = c.loop-bytes.rest.now in
     let is = left_missing c.args.whole run.known n rest (c.in_default.ensures.none.0 refl) in
-    let all = end-over _ (machine_in (g.G.Gpu.state c.loop-bytes.gpu) first_owner run.guests.items) c.args.run.now.report.items run.report.items _ _ _ (left_of c.args.whole run.known n rest) c.loop-bytes.invariant.left (missing c.args.whole n) is in
-    record { machine = all.machine; report = all.report; ran = all.ran }
+    end-over _ (g.G.Gpu.state c.args.gpu.now) _ c.args.run.now (g.G.Gpu.state c.loop-bytes.gpu) run (left_of c.args.whole run.known n rest) c.loop-bytes.invariant.left (missing c.args.whole n) is
 
 pub returns-then-whole-clause-part : goal.returns-then-whole-clause-part
 returns-then-whole-clause-part g c = left-part _ _ _ _ c.loop-bytes.run.report.items (g.G.Gpu.state c.loop-bytes.gpu) c.loop-bytes.invariant.left.course
@@ -61,8 +58,7 @@ returns-else-whole-clause-done g c =
     let n = c.loop-bytes.number in
     let rest = c.loop-bytes.rest.now in
     let is = left_missing c.args.whole run.known n rest (c.in_default.ensures.none.0 refl) in
-    let all = end-over _ (machine_in (g.G.Gpu.state c.loop-bytes.gpu) first_owner run.guests.items) c.args.run.now.report.items run.report.items _ _ _ (left_of c.args.whole run.known n rest) c.loop-bytes.invariant.left (missing c.args.whole n) is in
-    record { machine = all.machine; report = all.report; ran = all.ran }
+    end-over _ (g.G.Gpu.state c.args.gpu.now) _ c.args.run.now (g.G.Gpu.state c.loop-bytes.gpu) run (left_of c.args.whole run.known n rest) c.loop-bytes.invariant.left (missing c.args.whole n) is
 
 pub returns-else-whole-clause-part : goal.returns-else-whole-clause-part
 returns-else-whole-clause-part g c = left-part _ _ _ _ c.loop-bytes.run.report.items (g.G.Gpu.state c.loop-bytes.gpu) c.loop-bytes.invariant.left.course

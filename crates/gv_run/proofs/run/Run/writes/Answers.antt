@@ -48,8 +48,7 @@ returns-clause-done g c =
     let m = machine_in d first_owner c.loop-index.self.guests.items in
     let at = c.args.at + bytes_of c.args.width * c.loop-index.index in
     let none = drop_all c.loop-index.index c.args.values.now (omega arith) in
-    let all = over _ _ _ _ c.loop-index.self.report.items d kept.left m (ap (λ values. play input_course m (writes_of c.args.guest c.args.place c.args.width at values)) none) in
-    record { machine = all.machine; report = all.report; ran = all.ran }
+    over _ _ (g.G.Gpu.state c.args.gpu.now) c.args.self.now d c.loop-index.self kept.left (ap (λ values. play input_course m (writes_of c.args.guest c.args.place c.args.width at values)) none)
 
 pub returns-clause-part : goal.returns-clause-part
 returns-clause-part g c = left-part _ _ _ _ c.loop-index.self.report.items (g.G.Gpu.state c.loop-index.gpu) c.loop-index.invariant.left
