@@ -346,6 +346,14 @@ a_row_is_filled : (turned fills 1).left.device.memory ≡ memory (image 0 0x10) 
 unfolding kind_of bytes_written
 a_row_is_filled = refl
 
+-- three bytes from address 0 to address 1, over themselves: the row is read whole first
+abbrev copies : PrivateDevice
+copies = device (memory (image 0 0x10) [] zeros [] (0x44332211 ∷ [])) (8 ∷ []) 1 (busy (at_work (command (0x54C00008 ∷ 0xCC0000 ∷ 0 ∷ 0x10003 ∷ 1 ∷ 0 ∷ 0 ∷ 0 ∷ 0 ∷ 0 ∷ []) none)))
+
+a_row_over_itself : (turned copies 1).left.device.memory ≡ memory (image 0 0x10) [] zeros [] (0x33221111 ∷ [])
+unfolding kind_of bytes_written
+a_row_over_itself = refl
+
 -- ---- registers, by their offsets
 
 abbrev plain : PrivateDevice

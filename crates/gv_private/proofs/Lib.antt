@@ -9,4 +9,5 @@ pub mod Tables
 pub mod Untouched
 pub mod Unnamed
 pub mod Told
+pub mod Completion
 mod Examples

@@ -1,5 +1,5 @@
 -- What holds of every private device, whatever its guest does.
-use Rattle.std.specs.Prelude.{ℕ, ◌+◌, ◌/◌, ◌%◌, ◌^◌, ◌<◌, ◌≡◌, Bool, true, false, ◌||◌, ◌&&◌, ◌==◌, List, length, slice_set, ◌≢◌, Option, None, Some, MatchOption, Ok}
+use Rattle.std.specs.Prelude.{ℕ, ◌+◌, ◌/◌, ◌%◌, ◌^◌, ◌<◌, ◌≡◌, Bool, true, false, ◌||◌, ◌&&◌, ◌==◌, List, length, slice_set, ◌≢◌, Option, None, Some, MatchOption, Ok, if◌then◌else◌, [], ◌∷◌}
 use Rattle.gv_types.specs.declared.event.Event.{Event}
 use Rattle.gv_types.specs.declared.event.Event.TheVariants.{Write, Turn, Reset}
 use Rattle.gv_types.specs.declared.event.Place.{Place}
@@ -13,13 +13,15 @@ use Rattle.gv_regs.specs.Table.{target_at, engines_reset}
 use Rattle.gv_regs.specs.declared.effect.Target.{Target}
 use Rattle.gv_regs.specs.declared.effect.Target.TheVariants.{EngineReset}
 use Rattle.gv_ctx.specs.declared.image.Image.{Image}
+use Rattle.gv_csb.specs.Slots.{completion_events, begins}
+use Rattle.gv_csb.specs.Status.{element_switch, active_to_idle}
 use Rattle.gv_csb.specs.declared.status.Status.{Status}
 use Rattle.gv_entry.specs.Global.{entry_of}
 use Rattle.gv_entry.specs.Grants.{global_grant, nothing_guarded, read_grant}
 use Rattle.gv_entry.specs.SameTables.{has, SameMeaning}
 use Rattle.gv_entry.specs.Tables.{is_guarded}
 use Rattle.gv_private.specs.Access.{aperture_written}
-use Rattle.gv_private.specs.Device.{PrivateDevice, Working, new_device, failed, front_context, quietly}
+use Rattle.gv_private.specs.Device.{Engine, has_another, PrivateDevice, Working, new_device, failed, front_context, quietly}
 use Rattle.gv_private.specs.Grants.{page_grant}
 use Rattle.gv_private.specs.Inputs.{answer}
 use Rattle.gv_private.specs.Load.{image_in}
@@ -101,6 +103,13 @@ abbrev pub ElementStays : Type 0
 ElementStays =
     (p : PrivateDevice) (event : Event) (engine : ℕ) → concerns engine event ≡ false → (answer p event).left.failsafe ≡ false
     → ((answer p event).left.engines engine).element ≡ (p.engines engine).element
+
+-- The events of a completion tell the front element's number, and whether its list has another element.
+abbrev pub CompletionTellsTheFront : Type 0
+CompletionTellsTheFront =
+    (e : Engine) (descriptor : ℕ) (more : List ℕ) → e.slots.running ≡ descriptor ∷ more
+    → completion_events e.slots.running e.slots.pending
+    ≡ (if has_another e then element_switch (front_context e).number ∷ [] else active_to_idle (front_context e).number ∷ begins e.slots.pending)
 
 -- each element at work has a root that is there
 abbrev pub HasRoots : PrivateDevice → Type 0

@@ -1,4 +1,4 @@
-ghost use Rattle.gv_private.specs.Laws.{StillTurnsChangeNothing, GuestStays, OnlyMemoryChanges, FailsafeStays, ElementStays, FirstHasRoots, RootsStay, TurnsKeepTables, EventsKeepTables, AperturesKeepTables, FailsafeIsTold, UngrantedIsUntouched, UnnamedIsUntouched, LoadsWriteNothing};
+ghost use Rattle.gv_private.specs.Laws.{CompletionTellsTheFront, StillTurnsChangeNothing, GuestStays, OnlyMemoryChanges, FailsafeStays, ElementStays, FirstHasRoots, RootsStay, TurnsKeepTables, EventsKeepTables, AperturesKeepTables, FailsafeIsTold, UngrantedIsUntouched, UnnamedIsUntouched, LoadsWriteNothing};
 
 /// A turn that waits or is idle changes nothing of the device, tells nothing and runs nothing. Each
 /// function here does nothing: its clause is the law.
@@ -27,6 +27,11 @@ pub fn failsafe_is_told()
 /// What is left of an element at work is changed by nothing but its own turns, resets and failsafe.
 pub fn element_stays()
     ensures { ElementStays }
+{}
+
+/// The events of a completion tell the number of the element at work, and whether its list has another.
+pub fn completion_tells_the_front()
+    ensures { CompletionTellsTheFront }
 {}
 
 /// A root of an element at work is a root, at first and after each event.

@@ -7,6 +7,6 @@
 mod laws;
 
 pub use laws::{
-    element_stays, failsafe_is_told, failsafe_stays, guest_stays, roots_stay,
-    still_turns_change_nothing, turns_keep_tables, ungranted_is_untouched,
+    completion_tells_the_front, element_stays, failsafe_is_told, failsafe_stays, guest_stays,
+    roots_stay, still_turns_change_nothing, turns_keep_tables, ungranted_is_untouched,
 };
