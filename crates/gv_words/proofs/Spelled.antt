@@ -1,6 +1,6 @@
 -- The number that a text spells, as the text is read.
-use Rattle.std.proofs.Common.{◌≡◌, ℕ, ◌<◌, ◌^◌, Bool, true, false, ◌&&◌, List, [], ◌∷◌, Option, Some, None, Result, Ok, Err, length, refl, ap, sym, ◌∙◌, if◌then◌else◌, nat_lt, inl, inr}
-use Rattle.std.proofs.lemmas.Bool.{ltb-true, lt-ltb, cases_Bool, and_parts, and_from}
+use Rattle.std.proofs.Common.{◌≡◌, ℕ, ◌<◌, ◌^◌, Bool, true, false, ◌&&◌, List, [], ◌∷◌, Option, Some, None, Result, Ok, Err, length, refl, ap, sym, subst, ◌∙◌, if◌then◌else◌, nat_lt, inl, inr}
+use Rattle.std.proofs.lemmas.Bool.{ltb-true, lt-ltb, cases_Bool, both_ways, and_parts, and_from}
 use Rattle.std.specs.List.{list_all}
 use Rattle.std.specs.Char.{digit_value}
 use Rattle.std.specs.Str.Parse.{digits_value, without_leading_plus, AllDigits, IsNumeral, ParsesUnsigned}
@@ -49,6 +49,13 @@ module _ (text : List ℕ) where
   pub not_spelled : {E : Type 0} (e : E) → ParsesUnsigned 32 10 text (Err e) → number_spelled text ≡ None
   unfolding digits
   not_spelled e refused = elim (cases_Bool fits) [ inl is ↦ absurd (refused (from_fits is)) | inr fails ↦ chosen false fails ]
+
+  pub reads_spelled : ReadsOne (λ u (r : Result ℕ (Unit {0})). ParsesUnsigned 32 10 u r) text (number_spelled text)
+  unfolding digits
+  reads_spelled = elim (cases_Bool fits) [
+    | inl is ↦ subst (ReadsOne (λ u (r : Result ℕ (Unit {0})). ParsesUnsigned 32 10 u r) text) (sym (chosen true is)) (from_fits is, refl)
+    | inr fails ↦ subst (ReadsOne (λ u (r : Result ℕ (Unit {0})). ParsesUnsigned 32 10 u r) text) (sym (chosen false fails)) (tt, λ holds. both_ways fits fails (fits_from holds))
+  ]
 
 -- what reads a text's number, where there is a text
 module _ {E : Type 0} (gives : List ℕ → Result ℕ E → Type 0) (parses : (text : List ℕ) (r : Result ℕ E) → gives text r → ParsesUnsigned 32 10 text r) where

@@ -1,5 +1,5 @@
 -- The task that the words of the command line name, by clap's meaning of the command.
-use Rattle.std.specs.Prelude.{◌&&◌, ◌^◌, ℕ, pos, true, List, [], ◌∷◌, Option, Some, None, if◌then◌else◌, nat_lt, codes, option_map, option_and_then}
+use Rattle.std.specs.Prelude.{◌&&◌, ◌^◌, ℕ, pos, Bool, true, List, [], ◌∷◌, Option, Some, None, if◌then◌else◌, nat_lt, codes, option_map, option_and_then}
 use Rattle.std.specs.Str.{bytes_eq}
 use Rattle.std.specs.Str.Parse.{digits_value, without_leading_plus}
 use Rattle.clap.specs.ValueTests.{is_numeral}
@@ -53,6 +53,10 @@ task_named (Some (name, rows)) =
     if bytes_eq name (codes "run") then Some Run
     else (if bytes_eq name (codes "gen") then option_map Gen (number_given rows) else None)
 
--- the task that the words name, where clap takes them
+-- whether clap takes the words: no step of its reading fails
+abbrev pub is_taken : List Text → Bool
+is_taken words = is_empty (fault_of command_app words)
+
+-- the task that the words name, which clap takes
 abbrev pub task_meant : List Text → Option Task
-task_meant words = if is_empty (fault_of command_app words) then task_named (subcommand_of command_app words) else None
+task_meant words = task_named (subcommand_of command_app words)

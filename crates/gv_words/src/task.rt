@@ -1,6 +1,6 @@
-ghost use Rattle.std.specs.Prelude.{◌≡◌, ◌↔◌, map, Some, None, IfOk, false};
+ghost use Rattle.std.specs.Prelude.{◌≡◌, ◌↔◌, map, Some, None, IfOk, OnOk, true, false};
 ghost use Rattle.clap.specs.Words.{app_of, rule_of, rows_of, found_of, subcommand_rows_of};
-ghost use Rattle.gv_words.specs.Task.{number_rule, program_app, command_app, task_meant, task_named, number_given};
+ghost use Rattle.gv_words.specs.Task.{number_rule, program_app, command_app, is_taken, task_meant, task_named, number_given};
 
 use clap::error::ErrorKind;
 use clap::{Arg, ArgMatches, Command, value_parser};
@@ -26,7 +26,8 @@ pub enum WordsRefused {
 /// version is no task.
 pub fn task_of<'a>(alloc: Global, words: &'a [&'a str]) -> Result<Task, WordsRefused>
     ensures task { IfOk result (λ task. task_meant (map (λ word. word.now) words.now) ≡ Some task) }
-    ensures bad { result ≡ Err WordsRefused.BadWords → task_meant (map (λ word. word.now) words.now) ≡ None }
+    ensures taken { OnOk result (is_taken (map (λ word. word.now) words.now) ≡ true) }
+    ensures bad { result ≡ Err WordsRefused.BadWords → is_taken (map (λ word. word.now) words.now) ≡ false }
 {
     let Ok(command) = command(alloc) else {
         return Err(WordsRefused::OutOfMemory);
