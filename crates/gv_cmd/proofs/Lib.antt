@@ -1,4 +1,3 @@
-pub mod Padding
 pub mod Starts
 pub mod Keeping
 pub mod Simulation

@@ -1,5 +1,6 @@
 -- What a command does to a space, written over what the space's operations mean.
-use Rattle.std.specs.Prelude.{ℕ, ◌+◌, ◌-◌, ◌/◌, ◌==◌, ◌&&◌, ◌||◌, not, nat_le, nat_lt, Bool, true, false, List, [], ◌∷◌, drop, fold, if◌then◌else◌, Option, None, Some, is_none}
+use Rattle.std.specs.Prelude.{ℕ, ◌+◌, ◌-◌, ◌/◌, ◌%◌, ◌==◌, ◌&&◌, ◌||◌, not, max, nat_le, nat_lt, slice_index, Bool, true, false, List, [], ◌∷◌, drop, fold, if◌then◌else◌, Option, None, Some, is_none}
+use Rattle.std.specs.Int.{to_le_bytes, w32}
 use Rattle.gv_cmd.specs.Bits.{register}
 use Rattle.gv_cmd.specs.Table.{kind_of}
 use Rattle.gv_cmd.specs.Rows.{rows}
@@ -8,6 +9,10 @@ use Rattle.gv_cmd.specs.declared.blit.RowPair.{RowPair}
 use Rattle.gv_cmd.specs.declared.kind.PostWrite.{PostWrite}
 use Rattle.gv_cmd.specs.declared.kind.Kind.{Kind}
 use Rattle.gv_cmd.specs.declared.kind.Kind.TheVariants.{UserInterrupt, SemaphoreWait, Store, LoadRegisters, StoreRegister, LoadRegister, MoveRegister, CopyMemory, Flush, PipeControl, ColourBlit, CopyBlit}
+
+-- A byte of a row of a colour, whose low bytes are taken in turn. A pixel has 1, 2 or 4 of them.
+abbrev pub colour_byte : ℕ → ℕ → ℕ → ℕ
+colour_byte colour depth k = slice_index (to_le_bytes w32 colour) (k % max depth 1)
 
 -- What the six operations of a space answer, and what they leave of its state. A Bool says that an
 -- address is global. General registers are counted by dwords, 0 to 31.

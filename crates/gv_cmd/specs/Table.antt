@@ -63,6 +63,11 @@ length_of h =
     else (if bits h 31 29 == 2 then blit_length (bits h 28 22) h
     else None))
 
+-- how many dwords of a command are read: the header alone where no row has it
+abbrev pub read_length : Option ℕ → ℕ
+read_length None = 1
+read_length (Some n) = n
+
 -- ---- the fields, row by row: None where a rule on another dword than the header isn't kept
 
 abbrev pub semaphore : List ℕ → Kind

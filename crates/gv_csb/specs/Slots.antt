@@ -92,12 +92,12 @@ abbrev pub pointer_of : Execlists → ℕ
 pointer_of s = s.write + s.read * 2 ^ 8
 
 -- the old bits, with those of the value where the mask has ones
-abbrev pub masked : ℕ → ℕ → ℕ → ℕ
-masked old value mask = bit_or (bit_and old (7 - mask)) (bit_and value mask)
+abbrev pub pointer_masked : ℕ → ℕ → ℕ → ℕ
+pointer_masked old value mask = bit_or (bit_and old (7 - mask)) (bit_and value mask)
 
 -- A write changes those bits of the read pointer whose bit 16 places higher is set.
 abbrev pub pointer_written : Execlists → ℕ → Execlists
-pointer_written s value = record s { read = masked s.read (value / 2 ^ 8 % 8) (value / 2 ^ 24 % 8) }
+pointer_written s value = record s { read = pointer_masked s.read (value / 2 ^ 8 % 8) (value / 2 ^ 24 % 8) }
 
 -- ---- what always holds
 

@@ -4,10 +4,10 @@ use Rattle.std.specs.Prelude.{count_by}
 use Rattle.std.specs.Option.{is_some}
 use Rattle.std.proofs.lemmas.Bool.Decides.{nat_tests}
 use Rattle.std.proofs.lemmas.Grind.{common_steps}
+use Rattle.gv_types.specs.Maps.{put}
+use Rattle.gv_types.specs.Bits.{with_byte}
 use Rattle.gv_types.specs.declared.ids.Label.{Label}
 use Rattle.gv_arena.specs.Contents.{Contents, words_at, words_of, words_or_none, live, with_page}
-use Rattle.gv_gpu.specs.Device.{put}
-use Rattle.gv_gpu.specs.Physical.{with_byte}
 use Rattle.gv_engine.specs.Pages.{Held, held_by, with_words, bytes_put}
 
 module _ {A : Type 0} (f : ℕ → A) (k : ℕ) where

@@ -2,8 +2,10 @@
 use Rattle.std.proofs.Common.{◌≡◌, ◌≢◌, ◌⊎◌, ℕ, zero, suc, ◌+◌, ◌/◌, ◌%◌, ◌<◌, ◌≤◌, ◌||◌, Bool, true, false, List, Option, None, Some, get_or, set, refl, sym, ap, subst, ◌∙◌, add-zero, inl, inr, arith}
 use Rattle.std.proofs.lemmas.Bool.Decides.{nat_tests}
 use Rattle.std.specs.Int.{w64, to_le_bytes, from_le_bytes}
-use Rattle.gv_gpu.specs.Device.{Device, Loaded, put}
-use Rattle.gv_gpu.specs.Physical.{with_byte, word_in, word_stored, byte_stored, write_page, write_strays}
+use Rattle.gv_types.specs.Maps.{put}
+use Rattle.gv_types.specs.Bits.{with_byte}
+use Rattle.gv_gpu.specs.Device.{Device, Loaded}
+use Rattle.gv_gpu.specs.Physical.{word_in, word_stored, byte_stored, write_page, write_strays}
 use Rattle.gv_gpu.specs.Step.{Stepping, bytes_stored}
 use Rattle.gv_engine.specs.Pages.{bytes_put}
 use Rattle.gv_engine.specs.Rows.{reworded, put_in}

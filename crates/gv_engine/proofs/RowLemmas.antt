@@ -1,8 +1,9 @@
 -- Rows of blits, span by span.
 use Rattle.std.proofs.Common.{◌≡◌, ℕ, suc, zero, arith, ◌+◌, ◌/◌, ◌%◌, ◌<◌, ◌≤◌, ◌||◌, Bool, true, false, Option, None, Some, refl, ap, sym, ◌∙◌, add-zero, List, [], ◌∷◌, get_or}
 use Rattle.std.specs.Int.{w64, to_le_bytes}
+use Rattle.gv_types.specs.Bits.{byte_of}
 use Rattle.gv_gpu.specs.Device.{Device, Loaded}
-use Rattle.gv_gpu.specs.Physical.{byte_of, word_in, byte_at, byte_stored, read_page, read_strays, write_strays}
+use Rattle.gv_gpu.specs.Physical.{word_in, byte_at, byte_stored, read_page, read_strays, write_strays}
 use Rattle.gv_gpu.specs.Step.{Stepping, bytes_stored, bytes_stray, row_moved}
 use Rattle.gv_engine.specs.Pages.{byte_in}
 use Rattle.gv_engine.specs.Running.{stepping}

@@ -3,10 +3,11 @@ use Rattle.std.proofs.Common.{◌≡◌, ℕ, suc, zero, ◌+◌, ◌*◌, ◌<�
 use Rattle.std.proofs.lemmas.Bool.{eqb-true}
 use Rattle.std.proofs.lemmas.Grind.{common_steps}
 use Rattle.std.specs.Prelude.{IfOk, OnOk}
+use Rattle.gv_types.specs.Maps.{put}
 use Rattle.gv_types.specs.Memory.{zero_words}
 use Rattle.gv_types.specs.declared.ids.Label.{Label}
 use Rattle.gv_types.specs.declared.memory.OutOfMemory.{OutOfMemory}
-use Rattle.gv_gpu.specs.Device.{added, empty_device, put, with_general, with_global}
+use Rattle.gv_gpu.specs.Device.{added, empty_device, with_general, with_global}
 use Rattle.gv_engine.specs.Pages.{Held, nothing_held}
 use Rattle.gv_engine.specs.Soft.{state_of, register_of, zero_registers, loaded_by}
 use Rattle.gv_engine.specs.declared.context.Context.{Context}

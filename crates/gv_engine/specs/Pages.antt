@@ -1,9 +1,9 @@
 -- The pages of a device in memory, by number.
 use Rattle.std.specs.Prelude.{◌≡◌, ℕ, suc, zero, ◌+◌, ◌/◌, List, [], Option, None, slice_index, slice_index_or, slice_set, is_some}
+use Rattle.gv_types.specs.Maps.{put}
+use Rattle.gv_types.specs.Bits.{byte_of, with_byte}
 use Rattle.gv_types.specs.declared.ids.Label.{Label}
 use Rattle.gv_arena.specs.Contents.{Contents, is_live, live, words_of}
-use Rattle.gv_gpu.specs.Device.{put}
-use Rattle.gv_gpu.specs.Physical.{byte_of, with_byte}
 
 -- the label and the words of each page, and how many pages are live
 pub record Held : Type 0 where

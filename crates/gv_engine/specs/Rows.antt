@@ -1,6 +1,7 @@
 -- Rows of blits, page by page.
 use Rattle.std.specs.Prelude.{ℕ, ◌%◌, List, Option, None, Some}
-use Rattle.gv_gpu.specs.Device.{Device, put}
+use Rattle.gv_types.specs.Maps.{put}
+use Rattle.gv_gpu.specs.Device.{Device}
 use Rattle.gv_engine.specs.Pages.{bytes_put}
 
 -- the device with other words

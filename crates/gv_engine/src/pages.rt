@@ -1,8 +1,8 @@
 //! The pages of a device in memory.
 ghost use Rattle.std.specs.Prelude.{◌≡◌, ℕ, ◌+◌, ◌-◌, ◌<◌, ◌≤◌, length, slice_index, slice_index_or, slice_set, IfOk, OnOk, OnErr, IsSome, Some, None, []};
+ghost use Rattle.gv_types.specs.Maps.{put};
+ghost use Rattle.gv_types.specs.Bits.{byte_of, with_byte};
 ghost use Rattle.gv_types.specs.Memory.{zero_words};
-ghost use Rattle.gv_gpu.specs.Device.{put};
-ghost use Rattle.gv_gpu.specs.Physical.{byte_of, with_byte};
 ghost use Rattle.gv_engine.specs.Pages.{AreLabelled, nothing_held, with_words, byte_in, bytes_put};
 
 use gv_arena::Arena;

@@ -1,5 +1,5 @@
 ghost use Rattle.std.specs.Prelude.{◌≡◌, ◌+◌, ◌<◌, ◌≤◌, ◌^◌};
-ghost use Rattle.gv_gpu.specs.Step.{stands_of, is_privileged, address_of, front_at, batch_past, past, left, entered, moved, has_ended};
+ghost use Rattle.gv_gpu.specs.Step.{stands_of, is_privileged, address_of, front_at, batch_past, past, batch_left, entered, moved, has_ended};
 ghost use Rattle.gv_engine.specs.Soft.{loaded_of};
 
 use crate::context::Context;
@@ -75,8 +75,8 @@ fn past(place: Saved, dwords: usize) -> Saved
 }
 
 /// The innermost batch is left.
-fn left(place: Saved) -> Saved
-    ensures { result ≡ left place }
+fn batch_left(place: Saved) -> Saved
+    ensures { result ≡ batch_left place }
 {
     match place.second {
         Some(_) => Saved {
@@ -117,7 +117,7 @@ pub(crate) fn moved(place: Saved, command: &Command, dwords: usize) -> Saved
 {
     let place = past(place, dwords);
     match command.kind() {
-        Kind::BatchEnd => left(place),
+        Kind::BatchEnd => batch_left(place),
         Kind::BatchStart { live, second, at } => entered(place, second, Batch { at, live }),
         _ => place,
     }

@@ -1,8 +1,9 @@
 //! The rows of blits. A row is read whole before it is written, and goes page by page: the tables are
 //! walked once for the bytes that lie in one page.
 ghost use Rattle.std.specs.Prelude.{◌≡◌, ◌+◌, ◌%◌, ◌<◌, ◌≤◌, ◌^◌, ◌⊎◌, ℕ, false, length, slice_index, IsTrue, IsSome, IfSome, IfNone};
+ghost use Rattle.gv_cmd.specs.Effect.{colour_byte};
 ghost use Rattle.gv_gpu.specs.Physical.{byte_at, read_strays};
-ghost use Rattle.gv_gpu.specs.Step.{bytes_stored, bytes_stray, row_moved, colour_byte};
+ghost use Rattle.gv_gpu.specs.Step.{bytes_stored, bytes_stray, row_moved};
 ghost use Rattle.gv_engine.specs.Pages.{byte_in};
 ghost use Rattle.gv_engine.specs.Rows.{put_in};
 ghost use Rattle.gv_engine.specs.Running.{stepping};

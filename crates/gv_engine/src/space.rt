@@ -5,8 +5,8 @@ use crate::context::Context;
 use crate::strays::either;
 use gv_cmd::SpaceMeaning;
 use gv_exec::Space;
-use gv_gpu::{Gpu, half, with_half};
-use gv_types::EngineId;
+use gv_gpu::Gpu;
+use gv_types::{EngineId, half, with_half};
 
 /// Per-process addresses count modulo this.
 const ADDRESSES: u64 = 0x1_0000_0000_0000;

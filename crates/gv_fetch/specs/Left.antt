@@ -1,6 +1,6 @@
 -- What is left of an element at work, and how it goes on after a command.
 use Rattle.std.specs.Prelude.{ℕ, ◌+◌, ◌*◌, ◌%◌, ◌^◌, List, [], Bool, true, false, ◌≡◌, Option, None, Some}
-use Rattle.gv_cmd.specs.Table.{length_of, kind_of}
+use Rattle.gv_cmd.specs.Table.{length_of, kind_of, read_length}
 use Rattle.gv_cmd.specs.declared.kind.Kind.{Kind}
 use Rattle.gv_cmd.specs.declared.kind.Kind.TheVariants.{BatchEnd, BatchStart}
 use Rattle.gv_cmd.specs.declared.stands.Stands.{Stands}
@@ -84,14 +84,8 @@ privileged_by None None = true
 abbrev pub is_privileged : Left → Bool
 is_privileged w = privileged_by w.first w.second
 
--- A command of a live batch: the header alone, and where a row of the command table has it also the
--- other dwords of its length.
-abbrev pub count_by : Option ℕ → ℕ
-count_by None = 1
-count_by (Some n) = n
-
 abbrev pub live_command : (ℕ → ℕ) → ℕ → List ℕ
-live_command read at = dwords read at (count_by (length_of (read at)))
+live_command read at = dwords read at (read_length (length_of (read at)))
 
 -- ---- after a command
 
@@ -108,9 +102,9 @@ abbrev pub past : Left → ℕ → Left
 past w dwords = past_by w dwords w.first w.second
 
 -- the innermost batch is left
-abbrev pub left_by : Left → Option Level → Left
-left_by w (Some level) = record w { second = None }
-left_by w None = record w { first = None }
+abbrev pub batch_left : Left → Option Level → Left
+batch_left w (Some level) = record w { second = None }
+batch_left w None = record w { first = None }
 
 -- a batch of the first or second level is entered
 abbrev pub entered : Left → Bool → Level → Left
@@ -122,7 +116,7 @@ level_of true at items = At at
 level_of false at items = Fetched items
 
 abbrev pub moved_by : Left → Items → Option Kind → Left
-moved_by w items (Some BatchEnd) = left_by w w.second
+moved_by w items (Some BatchEnd) = batch_left w w.second
 moved_by w items (Some (BatchStart live second at)) = entered w second (level_of live at items)
 moved_by w items kind = w
 

@@ -1,7 +1,8 @@
 -- Pages of a part come and go and are written, and the rest of the device doesn't see it.
 use Rattle.std.proofs.Common.{◌≡◌, ℕ, true, false, List, [], Option, None, Some, refl, sym, cond, arith, set}
 use Rattle.std.proofs.lemmas.Grind.{common_steps}
-use Rattle.gv_gpu.specs.Device.{Device, put, added, released, poked, with_global}
+use Rattle.gv_types.specs.Maps.{put}
+use Rattle.gv_gpu.specs.Device.{Device, added, released, poked, with_global}
 use Rattle.gv_gpu.specs.Part.{Part, outside}
 use Rattle.gv_types.specs.Memory.{zero_words}
 use Rattle.gv_types.specs.declared.ids.Label.{Label}

@@ -1,5 +1,6 @@
 -- The shared device: all that it holds, and what each call makes of it.
 use Rattle.std.specs.Prelude.{ℕ, ◌+◌, ◌-◌, ◌^◌, min, max, List, [], Option, None, Some, if◌then◌else◌, ◌==◌, slice_set, ◌≡◌}
+use Rattle.gv_types.specs.Maps.{put}
 use Rattle.gv_types.specs.declared.ids.Label.{Label}
 use Rattle.gv_types.specs.Memory.{zero_words}
 use Rattle.gv_ctx.specs.declared.saved.Saved.{Saved}
@@ -52,10 +53,6 @@ empty_device spare = record {
 
 abbrev pub IsEmpty : Device → Type 0
 IsEmpty d = d ≡ empty_device d.spare
-
--- f with another value at k
-abbrev pub put : {A : Type 0} → (ℕ → A) → ℕ → A → ℕ → A
-put f k value n = if n == k then value else f n
 
 -- one more, where the count doesn't stand at its type's end
 abbrev pub counted : ℕ → ℕ

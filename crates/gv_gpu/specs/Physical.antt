@@ -2,6 +2,7 @@
 -- four levels of a root's physical tables; and which accesses stray.
 use Rattle.std.specs.Prelude.{ℕ, ◌+◌, ◌*◌, ◌/◌, ◌%◌, ◌^◌, ◌==◌, ◌&&◌, ◌||◌, not, nat_lt, Bool, true, false, ◌∷◌, [], slice_index, slice_set, if◌then◌else◌, Option, None, Some, is_some}
 use Rattle.std.specs.Int.{to_le_bytes, from_le_bytes, w32, w64}
+use Rattle.gv_types.specs.Bits.{byte_of, with_byte}
 use Rattle.gv_types.specs.declared.ids.Label.{Label}
 use Rattle.gv_types.specs.Memory.{half_of, with_half}
 use Rattle.gv_ctx.specs.Descriptor.{descriptor_of}
@@ -58,13 +59,6 @@ word_in d (Some page) at = slice_index (d.words page) (at % 4096 / 8)
 abbrev pub word_stored : Device → Option ℕ → ℕ → ℕ → Device
 word_stored d None at word = d
 word_stored d (Some page) at word = with_word d page (at % 4096 / 8) word
-
--- a byte of a word, least first
-abbrev pub byte_of : ℕ → ℕ → ℕ
-byte_of word at = slice_index (to_le_bytes w64 word) (at % 8)
-
-abbrev pub with_byte : ℕ → ℕ → ℕ → ℕ
-with_byte word at value = from_le_bytes w64 (slice_set (to_le_bytes w64 word) (at % 8) value)
 
 unfoldable pub byte_at : Device → ℕ → Bool → ℕ → ℕ
 byte_at d root global at = byte_of (word_in d (read_page d root global at) at) at

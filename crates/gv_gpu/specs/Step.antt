@@ -4,10 +4,10 @@ use Rattle.std.specs.Int.{to_le_bytes, w32}
 use Rattle.gv_types.specs.Memory.{half_of, with_half}
 use Rattle.gv_ctx.specs.declared.saved.Batch.{Batch}
 use Rattle.gv_ctx.specs.declared.saved.Saved.{Saved}
-use Rattle.gv_cmd.specs.Table.{length_of, kind_of}
+use Rattle.gv_cmd.specs.Table.{length_of, kind_of, read_length}
 use Rattle.gv_cmd.specs.Allowed.{is_allowed}
 use Rattle.gv_cmd.specs.Command.{decoded, shape_of}
-use Rattle.gv_cmd.specs.Effect.{Operations, Effect, effect}
+use Rattle.gv_cmd.specs.Effect.{Operations, Effect, effect, colour_byte}
 use Rattle.gv_cmd.specs.declared.command.Unlisted.{Unlisted as UnlistedError}
 use Rattle.gv_cmd.specs.declared.kind.Kind.{Kind}
 use Rattle.gv_cmd.specs.declared.kind.Kind.TheVariants.{BatchEnd, BatchStart}
@@ -47,10 +47,6 @@ bytes_stray d l at (suc n) = bytes_stray d l at n || read_strays d l false (at +
 abbrev pub row_moved : Stepping → ℕ → ℕ → ℕ → Stepping
 row_moved s to from n =
     bytes_stored (record s { strayed = s.strayed || bytes_stray s.device s.context from n }) to (λ k. byte_at s.device s.context.root false (from + k)) n
-
--- A byte of a row of a colour, whose low bytes are taken in turn. A pixel has 1, 2 or 4 of them.
-abbrev pub colour_byte : ℕ → ℕ → ℕ → ℕ
-colour_byte colour depth k = slice_index (to_le_bytes w32 colour) (k % max depth 1)
 
 -- the space of the loaded context: its root's per-process memory, the global memory, and the
 -- engine's general registers, of which dword n is a half of register n / 2
@@ -114,12 +110,12 @@ abbrev pub past : Saved → ℕ → Saved
 past place dwords = past_by place dwords place.first place.second
 
 -- the innermost batch is left
-abbrev pub left_by : Saved → Option Batch → Saved
-left_by place (Some second) = record place { second = None }
-left_by place None = record place { first = None }
+abbrev pub batch_left_by : Saved → Option Batch → Saved
+batch_left_by place (Some second) = record place { second = None }
+batch_left_by place None = record place { first = None }
 
-abbrev pub left : Saved → Saved
-left place = left_by place place.second
+abbrev pub batch_left : Saved → Saved
+batch_left place = batch_left_by place place.second
 
 -- A batch of the first or the second level is entered. Where a live batch of the first level starts
 -- another one of that level it jumps: its own address is replaced.
@@ -129,7 +125,7 @@ entered place false batch = record place { first = Some batch }
 
 -- the place after a command that ran, from the one behind it
 abbrev pub moved_by : Saved → Option Kind → Saved
-moved_by place (Some BatchEnd) = left place
+moved_by place (Some BatchEnd) = batch_left place
 moved_by place (Some (BatchStart live second at)) = entered place second (record { at = at; live = live })
 moved_by place kind = place
 
@@ -144,11 +140,6 @@ pub record Fetched : Type 0 where
   pub words : List ℕ
   pub strayed : Bool
 
--- how many dwords are read
-abbrev pub count_by : Option ℕ → ℕ
-count_by None = 1
-count_by (Some n) = n
-
 unfoldable pub dwords_stray : Device → Loaded → Bool → ℕ → ℕ → Bool
 dwords_stray d l global at zero = false
 dwords_stray d l global at (suc n) = dwords_stray d l global at n || dword_strays d l global (at + 4 * n)
@@ -160,7 +151,7 @@ dwords_from d root global at (suc n) = dwords_from d root global at n ++ dword_a
 
 abbrev pub fetched_from : Device → Loaded → Bool → ℕ → Fetched
 fetched_from d l global at =
-    let n = count_by (length_of (dword_at d l.root global at)) in
+    let n = read_length (length_of (dword_at d l.root global at)) in
     record { words = dwords_from d l.root global at n; strayed = dwords_stray d l global at n }
 
 unfoldable pub fetched : Device → Loaded → Fetched

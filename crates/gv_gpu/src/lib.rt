@@ -4,8 +4,6 @@
 
 mod gpu;
 mod step;
-mod word;
 
 pub use gpu::{Gpu, GpuFailed};
 pub use step::Step;
-pub use word::{half, with_half};

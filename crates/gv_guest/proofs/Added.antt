@@ -4,8 +4,9 @@ use Rattle.std.proofs.lemmas.List.{same_lists, get_or-map, length-map, map_push}
 use Rattle.std.proofs.lemmas.List.Folds.{list_any-append}
 use Rattle.std.proofs.lemmas.Bool.{cases_eq, eq-eqb}
 use Rattle.std.proofs.lemmas.Grind.{common_steps}
+use Rattle.gv_types.specs.Maps.{put}
 use Rattle.gv_types.specs.Memory.{zero_words, length-zero_words}
-use Rattle.gv_gpu.specs.Device.{Device, put, added}
+use Rattle.gv_gpu.specs.Device.{Device, added}
 use Rattle.gv_gpu.specs.Part.{outside, frames_part}
 use Rattle.gv_gpu.proofs.Changed.{outside-added}
 use Rattle.gv_guest.specs.Placed.{Placed, Stands, memory_in, frame_label, is_among}

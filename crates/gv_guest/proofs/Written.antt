@@ -3,9 +3,10 @@ use Rattle.std.proofs.Common.{◌≡◌, ℕ, ◌*◌, ◌/◌, ◌%◌, ◌<◌
 use Rattle.std.proofs.lemmas.List.{same_lists, get_or-map, length-map, length-set}
 use Rattle.std.proofs.lemmas.Bool.{eq-eqb}
 use Rattle.std.proofs.lemmas.Grind.{common_steps}
+use Rattle.gv_types.specs.Maps.{put}
 use Rattle.gv_types.specs.Memory.{with_word}
 use Rattle.gv_gpu.specs.Change.{ChangesOnly}
-use Rattle.gv_gpu.specs.Device.{Device, put, poked}
+use Rattle.gv_gpu.specs.Device.{Device, poked}
 use Rattle.gv_gpu.specs.Part.{frames_part, is_frame_of}
 use Rattle.gv_gpu.proofs.Changes.{poked-changes}
 use Rattle.gv_guest.specs.Placed.{Placed, Stands, memory_in, frame_label}

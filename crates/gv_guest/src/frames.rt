@@ -4,8 +4,8 @@ ghost use Rattle.gv_gpu.specs.Part.{outside, frames_part};
 ghost use Rattle.gv_types.specs.Memory.{memory_read, memory_write, word_of, with_word, zero_memory, bytes_of, all_ones};
 ghost use Rattle.gv_guest.specs.Placed.{Stands, memory_in, nowhere};
 
-use gv_gpu::{Gpu, half, with_half};
-use gv_types::{GuestId, Label, OutOfMemory, Width};
+use gv_gpu::Gpu;
+use gv_types::{GuestId, Label, OutOfMemory, Width, half, with_half};
 use std::alloc::Global;
 use std::marker::Model;
 

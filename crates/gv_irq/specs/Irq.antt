@@ -2,6 +2,7 @@
 use Rattle.std.specs.Prelude.{ℕ, ◌+◌, ◌-◌, ◌/◌, ◌%◌, ◌^◌, ◌<◌, List, [], ◌∷◌, Bool, false, not, ◌==◌, ◌&&◌, if◌then◌else◌, Option, None, Some, bit_and, bit_or}
 use Rattle.std.specs.Int.{bit_at}
 use Rattle.std.specs.List.{list_any}
+use Rattle.gv_types.specs.Bits.{has_bit}
 use Rattle.gv_irq.specs.declared.group.GroupId.{GroupId}
 use Rattle.gv_irq.specs.declared.group.GroupId.TheVariants.{Zero, One, Three}
 use Rattle.gv_irq.specs.declared.register.Register.{Register}
@@ -45,9 +46,6 @@ reset_group = record { imr = 0xFFFFFFFF; iir = 0; ier = 0 }
 
 abbrev pub reset_irq : Interrupts
 reset_irq = record { master = false; zero = reset_group; one = reset_group; three = reset_group }
-
-abbrev pub has_bit : ℕ → ℕ → Bool
-has_bit dword bit = bit_at dword bit == 1
 
 abbrev pub with_bit : ℕ → ℕ → ℕ
 with_bit dword bit = bit_or dword (2 ^ bit)

@@ -1,5 +1,8 @@
 ghost use Rattle.std.specs.Prelude.{◌≡◌, ◌<◌};
-ghost use Rattle.gv_irq.specs.Irq.{has_bit, group_raised, may_interrupt, deliverable_bits, reset_group, AreDwords};
+ghost use Rattle.gv_types.specs.Bits.{has_bit};
+ghost use Rattle.gv_irq.specs.Irq.{group_raised, may_interrupt, deliverable_bits, reset_group, AreDwords};
+
+use gv_types::has_bit;
 
 /// The groups by their numbers: 0 has the bits of RCS and BCS, 1 those of VCS, 3 those of VECS.
 #[derive(Clone, Copy, Debug, PartialEq, Eq)]
@@ -79,12 +82,4 @@ impl Group {
     {
         self.iir & self.ier
     }
-}
-
-/// Whether the dword has the bit.
-pub fn has_bit(dword: u32, bit: u8) -> bool
-    requires { bit < 32 }
-    ensures { result ≡ has_bit dword bit }
-{
-    (dword >> bit) & 1 == 1
 }

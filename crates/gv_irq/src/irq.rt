@@ -1,9 +1,9 @@
 ghost use Rattle.std.specs.Prelude.{◌≡◌, ◌≢◌, ◌+◌, ◌/◌, ◌<◌, ◌≤◌, IsTrue, if◌then◌else◌};
 ghost use Rattle.gv_irq.specs.Irq.{reset_irq, raised, raising_tells, is_interrupt_register, irq_read, master_read, irq_written, writing_tells, first_deliverable, number_in, interrupt_bit, AreDwords};
 
-use crate::group::{Group, GroupId, has_bit};
+use crate::group::{Group, GroupId};
 use crate::register::{Register, register_at};
-use gv_types::EngineId;
+use gv_types::{EngineId, has_bit};
 use std::marker::Model;
 
 /// The interrupt registers of one guest: a master, and ISR, IMR, IIR and IER of each of the groups 0, 1 and

@@ -4,14 +4,14 @@ use Rattle.std.proofs.lemmas.List.{take_all}
 use Rattle.gv_ctx.specs.declared.saved.Batch.{Batch}
 use Rattle.gv_ctx.specs.declared.saved.Saved.{Saved}
 use Rattle.gv_cmd.specs.Allowed.{is_allowed, may_stand}
-use Rattle.gv_cmd.specs.Table.{length_of, kind_of}
+use Rattle.gv_cmd.specs.Table.{length_of, kind_of, read_length}
 use Rattle.gv_gpu.specs.Device.{Device, Loaded}
 use Rattle.gv_gpu.specs.Physical.{dword_at}
-use Rattle.gv_gpu.specs.Step.{fetched_from, fetched, dwords_from, count_by, front_by, address_of, is_global_by, past_by, past, moved}
+use Rattle.gv_gpu.specs.Step.{fetched_from, fetched, dwords_from, front_by, address_of, is_global_by, past_by, past, moved}
 use Rattle.gv_fetch.specs.Fetch.{dwords}
 use Rattle.gv_fetch.specs.Items.{none, is_fetched_start}
 use Rattle.gv_scan.specs.Layout.{Layout}
-use Rattle.gv_fetch.specs.Left.{Level, Fetched, At, Left, IsLeft, LevelMayStand, live_command, count_by as own_count_by, front, front_by as own_front_by, privileged_by, is_privileged, stands_by, stands_of, past_by as own_past_by, past as own_past, moved as own_moved, moved_by as own_moved_by, started_by}
+use Rattle.gv_fetch.specs.Left.{Level, Fetched, At, Left, IsLeft, LevelMayStand, live_command, front, front_by as own_front_by, privileged_by, is_privileged, stands_by, stands_of, past_by as own_past_by, past as own_past, moved as own_moved, moved_by as own_moved_by, started_by}
 use Rattle.gv_fetch.proofs.Moving.{live-starts, second-starts}
 use Rattle.gv_cmd.specs.declared.stands.Stands.TheVariants.{Privileged, Second}
 use Rattle.gv_place.specs.Place.{LevelAt, Follows, StandsFor, ReadsSame}
@@ -46,14 +46,10 @@ module _ (d : Device) (l : Loaded) (read : ℕ → ℕ) (agree : ReadsSame d l.r
       (λ k h. let less : k < n = omega arith in agree.dword (at + 4 * k) (four at k fit) ∙ sym (get-dwords read at n k less)) n enough
       ∙ take_all n (dwords read at n) few
 
-  counts : (o : Option ℕ) → count_by o ≡ own_count_by o
-  counts None = refl
-  counts (Some n) = refl
-
   command-same : (at : ℕ) → at % 4 ≡ 0 → (fetched_from d l false at).words ≡ live_command read at
   command-same at fit =
-      dwords-same at (count_by (length_of (dword_at d l.root false at))) fit
-      ∙ ap (dwords read at) (counts (length_of (dword_at d l.root false at)) ∙ ap (λ h. own_count_by (length_of h)) (agree.dword at fit))
+      dwords-same at (read_length (length_of (dword_at d l.root false at))) fit
+      ∙ ap (λ h. dwords read at (read_length (length_of h))) (agree.dword at fit)
 
   read-at : Batch → Bool → ℕ
   read-at b live = cond live (b.at % 2 ^ 48) (min b.at (2 ^ 32))

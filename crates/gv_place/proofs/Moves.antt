@@ -5,15 +5,15 @@ use Rattle.gv_ctx.specs.declared.saved.Saved.{Saved}
 use Rattle.gv_cmd.specs.Table.{kind_of}
 use Rattle.gv_cmd.specs.declared.kind.Kind.{Kind}
 use Rattle.gv_cmd.specs.declared.kind.Kind.TheVariants.{BatchEnd, BatchStart}
-use Rattle.gv_gpu.specs.Step.{left_by, entered, moved_by}
+use Rattle.gv_gpu.specs.Step.{batch_left_by, entered, moved_by}
 use Rattle.gv_fetch.specs.Items.{Items, is_fetched_start}
 use Rattle.gv_scan.specs.Layout.{Layout}
-use Rattle.gv_fetch.specs.Left.{Level, Fetched, At, Left, left_by as own_left_by, entered as own_entered, moved_by as own_moved_by}
+use Rattle.gv_fetch.specs.Left.{Level, Fetched, At, Left, batch_left as own_batch_left, entered as own_entered, moved_by as own_moved_by}
 use Rattle.gv_place.specs.Place.{LevelAt, Follows}
 use Rattle.gv_place.proofs.Levels.{FrontCopy, same, start}
 
 module _ (p : Layout) (place : Saved) (w : Left) (follows : Follows p place w) where
-  by-level : (second : Option Batch) (s : Option Level) → LevelAt p second s → Follows p (left_by place second) (own_left_by w s)
+  by-level : (second : Option Batch) (s : Option Level) → LevelAt p second s → Follows p (batch_left_by place second) (own_batch_left w s)
   by-level None None at = record { ring = follows.ring; first = tt; second = follows.second }
   by-level None (Some level) at = absurd at
   by-level (Some b) None at = absurd at

@@ -3,10 +3,10 @@ use Rattle.std.proofs.Common.{◌≡◌, ℕ, suc, zero, ◌+◌, ◌*◌, ◌<�
 use Rattle.std.specs.List.{concat}
 use Rattle.std.proofs.Math.Seq.{take-suc}
 use Rattle.std.proofs.lemmas.List.{append-nil, get_or_append_left, get_or-append-add, take_all}
-use Rattle.gv_cmd.specs.Table.{length_of}
+use Rattle.gv_cmd.specs.Table.{length_of, read_length}
 use Rattle.gv_gpu.specs.Device.{Device, Loaded}
 use Rattle.gv_gpu.specs.Physical.{read_page, byte_at, operand_at, dword_at}
-use Rattle.gv_gpu.specs.Step.{count_by, dwords_from, dwords_stray, fetched_from}
+use Rattle.gv_gpu.specs.Step.{dwords_from, dwords_stray, fetched_from}
 use Rattle.gv_scan.specs.Layout.{Begins}
 use Rattle.gv_sring.specs.Copy.{Shown, HasCopy}
 
@@ -77,12 +77,12 @@ dwords-are d root global at c each (suc n) h =
 
 -- a command is fetched where its dwords stand
 module _ (d : Device) (l : Loaded) (global : Bool) (at : ℕ) (c : List ℕ) (each : (k : ℕ) → k < length c → dword_at d l.root global (at + 4 * k) ≡ get_or c k 0) (some : 1 ≤ length c) (names : length_of (get_or c 0 0) ≡ Some (length c)) where
-  count : count_by (length_of (dword_at d l.root global at)) ≡ length c
+  count : read_length (length_of (dword_at d l.root global at)) ≡ length c
   count =
       let zero_there : 0 < length c = omega arith in
       let at_zero : at + 4 * 0 ≡ at = omega arith in
       let header : dword_at d l.root global at ≡ get_or c 0 0 = ap (dword_at d l.root global) (sym at_zero) ∙ each 0 zero_there in
-      ap (λ h. count_by (length_of h)) header ∙ ap count_by names
+      ap (λ h. read_length (length_of h)) header ∙ ap read_length names
 
   pub fetched-are : (fetched_from d l global at).words ≡ c
   fetched-are =

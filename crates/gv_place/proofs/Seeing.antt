@@ -6,7 +6,7 @@ use Rattle.std.proofs.lemmas.List.{append-nil, ext_get_or}
 use Rattle.std.proofs.lemmas.Bool.Decides.{nat_tests}
 use Rattle.gv_ctx.specs.declared.saved.Batch.{Batch}
 use Rattle.gv_cmd.specs.Allowed.{may_stand}
-use Rattle.gv_cmd.specs.Table.{length_of, kind_of}
+use Rattle.gv_cmd.specs.Table.{length_of, kind_of, read_length}
 use Rattle.gv_cmd.specs.Command.{IsCommand}
 use Rattle.gv_cmd.specs.declared.kind.Kind.{Kind}
 use Rattle.gv_cmd.specs.declared.kind.Kind.TheVariants.{BatchEnd, BatchStart}
@@ -19,7 +19,7 @@ use Rattle.gv_fetch.specs.Items.{Items, none, command, batch, inside, is_fetched
 use Rattle.gv_fetch.specs.Fetch.{dwords, by_kind}
 use Rattle.gv_fetch.specs.Items.{start_at}
 use Rattle.gv_scan.specs.Layout.{Layout, Begins, Started, Copies}
-use Rattle.gv_fetch.specs.Left.{Level, Fetched, At, Left, count_by, live_command, LevelMayStand, IsLeft}
+use Rattle.gv_fetch.specs.Left.{Level, Fetched, At, Left, live_command, LevelMayStand, IsLeft}
 use Rattle.gv_fetch.proofs.Readdressed.{SameStart, start_copied}
 use Rattle.gv_fetch.proofs.Reading.{length-dwords, get-dwords}
 use Rattle.gv_sring.specs.Copy.{HasCopy, Copied}
@@ -36,7 +36,7 @@ command-seen read at c good each =
     let first : 0 < length c = omega arith in
     let here : at + 4 * 0 ≡ at = omega arith in
     let header : read at ≡ get_or c 0 0 = ap read (sym here) ∙ each 0 first in
-    let count : count_by (length_of (read at)) ≡ length c = ap (λ h. count_by (length_of h)) header ∙ ap count_by good.length in
+    let count : read_length (length_of (read at)) ≡ length c = ap (λ h. read_length (length_of h)) header ∙ ap read_length good.length in
     ap (dwords read at) count
     ∙ ext_get_or 0 (dwords read at (length c)) c (length-dwords read at (length c))
     (λ k h. let l = length-dwords read at (length c) in let less : k < length c = omega arith in get-dwords read at (length c) k less ∙ each k less)

@@ -1,12 +1,13 @@
 -- A command whose stores go to no shadow page of the guest's leaves the copies.
 use Rattle.std.proofs.Common.{◌≡◌, ◌≢◌, ℕ, suc, zero, ◌+◌, Bool, false, List, Option, None, Some, refl, ap, sym, subst, ◌∙◌, arith}
 use Rattle.std.proofs.lemmas.Bool.Decides.{nat_tests}
+use Rattle.gv_types.specs.Maps.{put}
 use Rattle.gv_types.specs.declared.ids.Label.{Label}
 use Rattle.gv_cmd.specs.Effect.{effect}
 use Rattle.gv_cmd.specs.Table.{kind_of}
 use Rattle.gv_cmd.specs.Simulation.{Access, access, MayDo, Simulates}
 use Rattle.gv_cmd.proofs.Simulation.{effects_agree}
-use Rattle.gv_gpu.specs.Device.{Device, put}
+use Rattle.gv_gpu.specs.Device.{Device}
 use Rattle.gv_gpu.specs.Physical.{write_page, word_stored, operand_stored, byte_stored}
 use Rattle.gv_gpu.specs.Step.{Stepping, bytes_stored, operations}
 use Rattle.gv_sctx.specs.Context.{shadow_label}

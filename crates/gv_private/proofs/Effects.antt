@@ -1,5 +1,6 @@
 -- A command changes no more of its space than memory and general registers, and of memory no live table.
 use Rattle.std.proofs.Common.{◌≡◌, ℕ, suc, zero, ◌+◌, Bool, true, false, List, [], ◌∷◌, Option, None, Some, refl, ap, subst}
+use Rattle.gv_types.specs.Bits.{with_byte}
 use Rattle.gv_types.specs.Memory.{Memory}
 use Rattle.gv_types.specs.declared.event.Width.TheVariants.{Four, Eight}
 use Rattle.gv_cmd.specs.Effect.{effect}
@@ -10,7 +11,7 @@ use Rattle.gv_cmd.proofs.Simulation.{effects_agree}
 use Rattle.gv_entry.specs.SameTables.{SameTables}
 use Rattle.gv_entry.proofs.SameTables.{same_tables_chain}
 use Rattle.gv_private.specs.Grants.{frame_read, frame_written}
-use Rattle.gv_private.specs.Space.{PrivateSpace, writes, operand_written, byte_written, with_byte, word_at, bytes_written, private_operations}
+use Rattle.gv_private.specs.Space.{PrivateSpace, writes, operand_written, byte_written, word_at, bytes_written, private_operations}
 use Rattle.gv_private.proofs.Granted.{IsFree, page-free, write-free, tables-same, frame_written-tables}
 
 -- what a space can become

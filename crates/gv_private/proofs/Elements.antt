@@ -2,6 +2,7 @@
 use Rattle.std.proofs.Common.{◌≡◌, ℕ, suc, zero, ◌+◌, ◌/◌, ◌%◌, ◌^◌, ◌<◌, Bool, true, false, not, ◌||◌, ◌&&◌, List, [], ◌∷◌, Option, None, Some, cond, refl, sym, ap, ◌∙◌, subst, arith, eqb, ltb, ⊎_elim, inl, inr, ◌⊎◌}
 use Rattle.std.proofs.lemmas.Bool.{eqb-true, eq-eqb, or_cases}
 use Rattle.std.proofs.lemmas.Map.Views.{any-filter_same}
+use Rattle.gv_types.specs.Maps.{put}
 use Rattle.gv_types.specs.declared.event.Event.TheVariants.{Read, Write, Turn, Switch, Move, Reset}
 use Rattle.gv_types.specs.declared.event.Place.{Place}
 use Rattle.gv_types.specs.declared.event.Place.TheVariants as places
@@ -10,7 +11,7 @@ use Rattle.gv_types.specs.declared.event.Width.TheVariants.{Four, Eight}
 use Rattle.gv_entry.specs.SameTables.{has}
 use Rattle.gv_regs.specs.Table.{target_at, engines_reset}
 use Rattle.gv_regs.specs.declared.effect.Target.TheVariants.{EngineReset}
-use Rattle.gv_private.specs.Device.{Engine, PrivateDevice, Working, put, with_engine, with_element, reset_engine}
+use Rattle.gv_private.specs.Device.{Engine, PrivateDevice, Working, with_engine, with_element, reset_engine}
 use Rattle.gv_private.specs.Laws.{is_engine_reset, dword_resets, write_resets, ElementStays, HasRoots, FirstHasRoots, RootsStay}
 use Rattle.gv_private.specs.Registers.{is_named}
 use Rattle.gv_private.specs.Roots.{with_root, without_root, works_over, is_at_work}

@@ -2,6 +2,7 @@
 -- is at page 0, its ring at page 2, the status page is page 3; frame 8 is a root over the frames 9 to 11, whose pages
 -- 0, 1 and 2 are the frames 12, 13 and 14.
 use Rattle.std.proofs.Common.{Option, Bool, true, false, ◌≡◌, ℕ, ◌*◌, ◌^◌, List, [], ◌∷◌, ◌++◌, None, Some, cond, eqb, replicate, set, refl, ap, ◌∙◌}
+use Rattle.gv_types.specs.Maps.{put}
 use Rattle.gv_types.specs.declared.event.Place.TheVariants as places
 use Rattle.gv_types.specs.declared.event.Width.TheVariants.{Four, Eight}
 use Rattle.gv_types.specs.declared.reply.Answer.TheVariants.{Moved, Kept}
@@ -17,7 +18,7 @@ use Rattle.gv_fetch.specs.Fetch.{dwords, owns_dwords, batch_items, ring_items, o
 use Rattle.gv_fetch.specs.Items.{Items, none, command, batch}
 use Rattle.gv_fetch.specs.Left.{Fetched, At, begun}
 use Rattle.gv_irq.specs.Irq.{Interrupts, reset_irq}
-use Rattle.gv_private.specs.Device.{Engine, PrivateDevice, Working, put, reset_engine, quietly, fails, failed}
+use Rattle.gv_private.specs.Device.{Engine, PrivateDevice, Working, reset_engine, quietly, fails, failed}
 use Rattle.gv_private.specs.Access.{value_read, value_written}
 use Rattle.gv_entry.specs.Entry.{global_frame}
 use Rattle.gv_entry.specs.Global.{entry_at, place_of}

@@ -4,6 +4,7 @@ use Rattle.std.specs.Prelude.{IfOk}
 use Rattle.std.proofs.lemmas.Bool.{eq-eqb, eqb-true}
 use Rattle.std.proofs.lemmas.List.{length-set}
 use Rattle.std.specs.Option.{option_or}
+use Rattle.gv_types.specs.Maps.{put}
 use Rattle.gv_types.specs.Memory.{Memory, memory_write, with_value}
 use Rattle.gv_types.specs.declared.event.Event.{Event}
 use Rattle.gv_types.specs.declared.event.Event.TheVariants.{Read, Write, Turn, Switch, Move, Reset}
@@ -35,7 +36,7 @@ use Rattle.gv_regs.specs.Table.{target_at, engines_reset}
 use Rattle.gv_regs.specs.declared.effect.Target.{Target}
 use Rattle.gv_regs.specs.declared.effect.Target.TheVariants.{Own, Elsp, Status as StatusPair, StatusPointer, General, Interrupts as InterruptTarget, EngineReset, Notify, Absent}
 use Rattle.gv_private.specs.Access.{table_at, page_at, entry_after, table_written, aperture_frame, aperture_written, memory_written, dwords_written, range_written, value_written}
-use Rattle.gv_private.specs.Device.{Engine, PrivateDevice, Working, Written, put, with_engine, with_slots, with_element, and_then, quietly, fails, failed, function_reset}
+use Rattle.gv_private.specs.Device.{Engine, PrivateDevice, Working, Written, with_engine, with_slots, with_element, and_then, quietly, fails, failed, function_reset}
 use Rattle.gv_private.specs.Inputs.{answer}
 use Rattle.gv_private.specs.Grants.{frame_written, global_written}
 use Rattle.gv_private.specs.Load.{global_space, image_in, work_of, fetched_into, loaded_by, loaded}

@@ -3,6 +3,7 @@
 use Rattle.std.proofs.Common.{◌≡◌, ◌≢◌, ℕ, suc, zero, ◌+◌, ◌*◌, ◌/◌, ◌%◌, ◌^◌, Bool, true, false, not, ◌&&◌, List, [], ◌∷◌, Option, None, Some, Result, Ok, Err, cond, get_or, set, refl, sym, ap, ◌∙◌, subst}
 use Rattle.std.proofs.lemmas.List.{get_or-set_other}
 use Rattle.std.specs.Option.{option_or}
+use Rattle.gv_types.specs.Bits.{byte_of, with_byte}
 use Rattle.gv_types.specs.Memory.{Memory, word_of, with_word, half_of, with_half}
 use Rattle.gv_types.specs.declared.event.Width.{Width}
 use Rattle.gv_types.specs.declared.event.Width.TheVariants.{Four, Eight}
@@ -13,7 +14,7 @@ use Rattle.gv_types.specs.declared.reply.Reason.TheVariants.{Command}
 use Rattle.gv_cmd.specs.Allowed.{is_allowed}
 use Rattle.gv_cmd.specs.Bits.{bit}
 use Rattle.gv_cmd.specs.Command.{decoded}
-use Rattle.gv_cmd.specs.Effect.{effect}
+use Rattle.gv_cmd.specs.Effect.{effect, colour_byte}
 use Rattle.gv_cmd.specs.Simulation.{Simulates, SameEffect}
 use Rattle.gv_cmd.specs.Table.{kind_of}
 use Rattle.gv_cmd.specs.declared.command.Unlisted.{Unlisted}
@@ -33,7 +34,7 @@ use Rattle.gv_private.specs.Device.{PrivateDevice, Working, Written, and_then, f
 use Rattle.gv_private.specs.Grants.{page_grant_in, page_grant, frame_read, frame_written, global_written}
 use Rattle.gv_private.specs.Laws.{with_frame, turned_with_frame, UngrantedIsUntouched, LoadsWriteNothing}
 use Rattle.gv_private.specs.Load.{loaded}
-use Rattle.gv_private.specs.Space.{PrivateSpace, space_of, reads, writes, operand_read, operand_written, byte_read, byte_written, byte_of, with_byte, word_at, bytes_written, colour_byte, private_operations}
+use Rattle.gv_private.specs.Space.{PrivateSpace, space_of, reads, writes, operand_read, operand_written, byte_read, byte_written, word_at, bytes_written, private_operations}
 use Rattle.gv_private.specs.Status.{bit_raised, bits_raised, status_at, in_ring, event_given, events_given, context_switch, user_interrupt, notify}
 use Rattle.gv_private.specs.Turn.{Turned, turned_as, front_words, front_effect, ran_after, run_by, command_by, tail_written, without_front, finished, load_by, next_by, turned_by}
 use Rattle.gv_private.proofs.Effects.{May, may_do, writes-free}

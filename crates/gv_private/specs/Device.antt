@@ -2,6 +2,7 @@
 -- and the guest's own tables are read at every access.
 use Rattle.std.specs.Prelude.{ℕ, List, [], ◌∷◌, Bool, true, false, Option, None, Some, ◌==◌, if◌then◌else◌}
 use Rattle.std.specs.Option.{option_or}
+use Rattle.gv_types.specs.Maps.{put}
 use Rattle.gv_types.specs.Memory.{Memory, zero_memory}
 use Rattle.gv_types.specs.declared.ranges.Ranges.{Ranges}
 use Rattle.gv_types.specs.declared.reply.Reason.{Reason}
@@ -39,10 +40,6 @@ pub record PrivateDevice : Type 0 where
   pub roots : List ℕ  -- the frames that are roots of per-process tables (PPGTT): a set, kept in rising order
   pub failsafe : Bool
   pub engines : ℕ → Engine  -- RCS, BCS, VCS and VECS, by number
-
--- another value of a function at one argument
-abbrev pub put : {A : Type 0} → (ℕ → A) → ℕ → A → ℕ → A
-put f k value n = if n == k then value else f n
 
 abbrev pub with_engine : PrivateDevice → ℕ → Engine → PrivateDevice
 with_engine p engine e = record p { engines = put p.engines engine e }

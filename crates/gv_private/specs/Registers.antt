@@ -1,5 +1,6 @@
 -- Each dword of the register range below the global table, by the part of the device that serves it.
 use Rattle.std.specs.Prelude.{ℕ, ◌*◌, ◌/◌, ◌%◌, ◌==◌, List, Bool, false, if◌then◌else◌, slice_index_or}
+use Rattle.gv_types.specs.Maps.{put}
 use Rattle.gv_types.specs.Memory.{half_of, with_half}
 use Rattle.gv_csb.specs.Slots.{Execlists, pointer_of, pointer_written}
 use Rattle.gv_irq.specs.Irq.{irq_read, irq_written, writing_tells}
@@ -7,7 +8,7 @@ use Rattle.gv_regs.specs.Registers.{register_read, register_written, engine_rese
 use Rattle.gv_regs.specs.Table.{target_at, engines_reset}
 use Rattle.gv_regs.specs.declared.effect.Target.{Target}
 use Rattle.gv_regs.specs.declared.effect.Target.TheVariants.{Elsp, Status, StatusPointer, General, Interrupts, EngineReset, Notify}
-use Rattle.gv_private.specs.Device.{Engine, PrivateDevice, Written, put, with_engine, with_slots, reset_engine, quietly}
+use Rattle.gv_private.specs.Device.{Engine, PrivateDevice, Written, with_engine, with_slots, reset_engine, quietly}
 use Rattle.gv_private.specs.Submission.{port_written}
 use Rattle.gv_private.specs.Roots.{notify_written}
 

@@ -2,10 +2,11 @@
 -- the engine's general registers.
 use Rattle.std.specs.Prelude.{ℕ, suc, zero, ◌+◌, ◌*◌, ◌/◌, ◌%◌, ◌^◌, List, Bool, true, false, max, Option, slice_index, slice_set}
 use Rattle.std.specs.Int.{to_le_bytes, from_le_bytes, w32, w64}
+use Rattle.gv_types.specs.Bits.{byte_of, with_byte}
 use Rattle.gv_types.specs.Memory.{Memory, half_of}
 use Rattle.gv_types.specs.declared.event.Width.TheVariants.{Four, Eight}
 use Rattle.gv_types.specs.declared.ranges.Ranges.{Ranges}
-use Rattle.gv_cmd.specs.Effect.{Operations}
+use Rattle.gv_cmd.specs.Effect.{Operations, colour_byte}
 use Rattle.gv_entry.specs.Grants.{read_grant, write_grant}
 use Rattle.gv_private.specs.Device.{PrivateDevice, with_engine}
 use Rattle.gv_private.specs.Grants.{page_grant_in, frame_read, frame_written}
@@ -47,13 +48,6 @@ operand_read s global at = frame_read s.memory Four at (reads s global at)
 abbrev pub operand_written : PrivateSpace → Bool → ℕ → ℕ → PrivateSpace
 operand_written s global at value = record s { memory = frame_written s.memory Four at value (writes s global at) }
 
--- a byte of a word, least first
-abbrev pub byte_of : ℕ → ℕ → ℕ
-byte_of word at = slice_index (to_le_bytes w64 word) (at % 8)
-
-abbrev pub with_byte : ℕ → ℕ → ℕ → ℕ
-with_byte word at value = from_le_bytes w64 (slice_set (to_le_bytes w64 word) (at % 8) value)
-
 -- the address of the word that a byte is in
 abbrev pub word_at : ℕ → ℕ
 word_at at = at / 8 * 8
@@ -69,10 +63,6 @@ byte_written s at value =
 unfoldable pub bytes_written : PrivateSpace → ℕ → (ℕ → ℕ) → ℕ → PrivateSpace
 bytes_written s at bytes zero = s
 bytes_written s at bytes (suc n) = byte_written (bytes_written s at bytes n) (at + n) (bytes n)
-
--- a byte of a row of a colour, whose low bytes are taken in turn: a pixel has 1, 2 or 4 of them
-abbrev pub colour_byte : ℕ → ℕ → ℕ → ℕ
-colour_byte colour depth k = slice_index (to_le_bytes w32 colour) (k % max depth 1)
 
 -- The six operations. A load leaves the space as it is. A row is read whole before it is written, and its addresses
 -- count modulo 2^48.

@@ -3,6 +3,7 @@
 use Rattle.std.specs.Prelude.{ℕ, ◌+◌, ◌-◌, ◌*◌, ◌/◌, ◌%◌, Bool, map, ◌==◌, ◌&&◌, ◌||◌, nat_le, nat_lt, if◌then◌else◌, List, [], ◌∷◌, ◌++◌, Option, Some, None}
 use Rattle.std.specs.Int.{bit_at}
 use Rattle.std.specs.List.{find, flat_map}
+use Rattle.gv_types.specs.Bits.{has_bit}
 use Rattle.gv_types.specs.declared.ids.EngineId.{EngineId}
 use Rattle.gv_regs.specs.declared.effect.Target.{Target}
 use Rattle.gv_regs.specs.declared.effect.Target.TheVariants.{Own, Elsp, Status, StatusPointer, General, Interrupts, EngineReset, Notify, Absent}
@@ -161,9 +162,6 @@ abbrev pub engine_at : ℕ → Option ℕ
 engine_at offset = engine_of (row_at offset)
 
 -- ---- the engine reset register
-
-abbrev pub has_bit : ℕ → ℕ → Bool
-has_bit dword bit = bit_at dword bit == 1
 
 -- A value that is written there resets an engine where its bit 0 is set, or the engine's own bit.
 abbrev pub resets : ℕ → Engine → Bool

@@ -1,13 +1,13 @@
 ghost use Rattle.std.specs.Prelude.{◌≡◌, ◌+◌, ◌-◌, ◌/◌, ◌%◌, ◌<◌, ◌≤◌, true, IfSome};
 ghost use Rattle.std.specs.List.{find};
 ghost use Rattle.std.specs.Option.{option_map};
-ghost use Rattle.gv_regs.specs.Table.{target_at, engines_reset, has_bit};
+ghost use Rattle.gv_regs.specs.Table.{target_at, engines_reset};
 ghost use Rattle.gv_regs.specs.Registers.{IsTarget};
 ghost use Rattle.gv_regs.specs.Decoded.{StandsAt, row_covers, target_in, register_of, engine_number_at};
 
 use crate::effect::Target;
 use crate::table::{ENGINE_ROWS, ENGINE_SLOTS, Kind, Row, SHARED_ROWS, SHARED_SLOTS};
-use gv_types::EngineId;
+use gv_types::{EngineId, has_bit};
 
 /// What stands at an offset: a register of the register file, with the slot of a kept dword that it reads, or
 /// one that another part of the device serves.
@@ -129,11 +129,4 @@ pub fn engines_reset(value: u32) -> [bool; 4]
         all || has_bit(value, 2),
         all || has_bit(value, 4),
     ]
-}
-
-fn has_bit(dword: u32, bit: u8) -> bool
-    requires { bit < 32 }
-    ensures { result ≡ has_bit dword bit }
-{
-    (dword >> bit) & 1 == 1
 }

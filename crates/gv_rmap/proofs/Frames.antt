@@ -33,7 +33,7 @@ order-set now frame chain h order good f =
 pub count-set : (now : List (List Leaf)) (frame : ℕ) (chain : List Leaf) → frame < length now → sum_by length (set now frame chain) + length (get_or now frame []) ≡ sum_by length now + length chain
 count-set now frame chain h = sum_by-set length now frame chain [] h
 
--- what the change of one place of one chain means
+-- what the change of one key of one chain means
 pub changes-set : (old new : ReverseMap) (frame p : ℕ) (leaf : Option Leaf) (chain : List Leaf) → frame < length old.chains → new.chains ≡ set old.chains frame chain → leaf_at chain p ≡ leaf → ((q : ℕ) → q ≢ p → leaf_at chain q ≡ leaf_at (chain_of old frame) q) → ChangesLeaf old new frame p leaf
 changes-set old new frame p leaf chain h written here others =
     let at : chain_of new frame ≡ chain = ap (λ l. get_or l frame []) written ∙ get_or-set_same old.chains frame chain [] h in

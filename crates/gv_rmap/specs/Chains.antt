@@ -26,7 +26,7 @@ linked s frame leaf = record { chains = slice_set s.chains frame (with_leaf leaf
 abbrev pub unlinked : ReverseMap → ℕ → Leaf → ReverseMap
 unlinked s frame leaf = record { chains = slice_set s.chains frame (without_leaf leaf (chain_of s frame)); spare = s.spare + 1 }
 
--- What that means: the frame's chain has this at the place, or nothing there, and at every other place,
+-- What that means: the frame's chain has this at the key, or nothing there, and at every other key,
 -- and of every other frame, what it had.
 pub record ChangesLeaf (old new : ReverseMap) (frame p : ℕ) (leaf : Option Leaf) : Type 0 where
   pub here : leaf_at (chain_of new frame) p ≡ leaf

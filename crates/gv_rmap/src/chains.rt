@@ -1,5 +1,5 @@
 ghost use Rattle.std.specs.Prelude.{◌≡◌, ◌+◌, ◌^◌, ◌<◌, ◌≤◌, length, None, Some, IsSome, IfOk, IsOk, OnOk, OnErr, vec_len, vec_capacity};
-ghost use Rattle.gv_rmap.specs.Leaves.{place, leaf_at, HasEachOnce};
+ghost use Rattle.gv_rmap.specs.Leaves.{key, leaf_at, HasEachOnce};
 ghost use Rattle.gv_rmap.specs.Chains.{no_leaves, chain_of, reserved, linked, unlinked, ChangesLeaf};
 
 use crate::tree::{Node, Tree};
@@ -12,7 +12,7 @@ use std::marker::Model;
 /// that grows with the logarithm of the chain's length.
 ///
 /// The chains are seen as a `ReverseMap`: `chains` has the chain of each frame, its leaves in the
-/// order of their places, and `spare` says how many leaves can be linked without memory.
+/// order of their keys, and `spare` says how many leaves can be linked without memory.
 #[derive(Drop)]
 pub struct Chains {
     alloc: Global,
@@ -86,9 +86,9 @@ impl Chains {
     pub fn link(&mut self, frame: u32, leaf: Leaf)
         requires frame { frame < length self.old.chains }
         requires spare { 1 ≤ self.old.spare }
-        requires absent { leaf_at (chain_of self.old frame) (place leaf) ≡ None }
+        requires absent { leaf_at (chain_of self.old frame) (key leaf) ≡ None }
         ensures after { self.new ≡ linked self.old frame leaf }
-        ensures changes { ChangesLeaf self.old self.new frame (place leaf) (Some leaf) }
+        ensures changes { ChangesLeaf self.old self.new frame (key leaf) (Some leaf) }
     {
         let Some(node) = self.spare.pop() else {
             unreachable!();
@@ -99,9 +99,9 @@ impl Chains {
     /// Takes the leaf of this page and index out of the frame's chain. It takes no memory.
     pub fn unlink(&mut self, frame: u32, leaf: Leaf)
         requires frame { frame < length self.old.chains }
-        requires linked { IsSome (leaf_at (chain_of self.old frame) (place leaf)) }
+        requires linked { IsSome (leaf_at (chain_of self.old frame) (key leaf)) }
         ensures after { self.new ≡ unlinked self.old frame leaf }
-        ensures changes { ChangesLeaf self.old self.new frame (place leaf) None }
+        ensures changes { ChangesLeaf self.old self.new frame (key leaf) None }
     {
         let Some(node) = self.chains[frame as usize].remove(leaf) else {
             unreachable!();
@@ -109,7 +109,7 @@ impl Chains {
         self.spare.push_reserved(node);
     }
 
-    /// The leaves of the frame's chain, each once, in the order of their places.
+    /// The leaves of the frame's chain, each once, in the order of their keys.
     pub fn walk(&self, frame: u32) -> Walk<'_>
         requires { frame < length self.now.chains }
         ensures leaves { result ≡ chain_of self.now frame }

@@ -10,11 +10,11 @@ pub struct Leaf {
 }
 
 impl Leaf {
-    ghost use Rattle.gv_rmap.specs.Leaves.{place, is_behind};
+    ghost use Rattle.gv_rmap.specs.Leaves.{key, is_behind};
 
     /// Whether the leaf stands before the other one: on an earlier page, or before it on its page.
     pub(crate) fn is_before(self, other: Leaf) -> bool
-        ensures { IsTrue result ↔ (place self < place other) }
+        ensures { IsTrue result ↔ (key self < key other) }
     {
         self.page < other.page || (self.page == other.page && self.index < other.index)
     }

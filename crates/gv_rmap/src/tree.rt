@@ -1,11 +1,11 @@
 ghost use Rattle.std.specs.Prelude.{◌≡◌, [], ◌∷◌, ◌++◌, None, IsSome, find, MatchOption};
-ghost use Rattle.gv_rmap.specs.Leaves.{place, IsInOrder, leaf_at, with_leaf, without_leaf, is_behind};
+ghost use Rattle.gv_rmap.specs.Leaves.{key, IsInOrder, leaf_at, with_leaf, without_leaf, is_behind};
 ghost use Rattle.gv_rmap.specs.Tree.{leaves, leaves_of};
 
 use crate::Leaf;
 use std::mem;
 
-/// The leaves of a chain in the order of their places, as a search tree whose sides' heights
+/// The leaves of a chain in the order of their keys, as a search tree whose sides' heights
 /// differ by one at the most.
 #[cycle(tree)]
 #[derive(Drop)]
@@ -38,7 +38,7 @@ impl Node {
     }
 
     // The height follows from those of the sides.
-    fn settle(&mut self)
+    fn update_height(&mut self)
         ensures { leaves_of self.new ≡ leaves_of self.old }
     {
         self.height = self
@@ -64,7 +64,7 @@ impl Tree {
         mem::replace(self, Tree::Empty)
     }
 
-    /// Puts the leaf in its place, in a node that was to spare.
+    /// Puts the leaf where its key belongs, in a node that was to spare.
     pub(crate) fn insert(&mut self, leaf: Leaf, mut spare: Box<Node>)
         ensures { IsInOrder (leaves self.old) → leaves self.new ≡ with_leaf leaf (leaves self.old) }
     {
@@ -81,9 +81,9 @@ impl Tree {
         *self = Tree::Fork(balanced(root));
     }
 
-    /// Takes the leaf that stands in the place of this one out, and answers its node.
+    /// Takes the leaf with the key of this one out, and answers its node.
     pub(crate) fn remove(&mut self, leaf: Leaf) -> Option<Box<Node>>
-        ensures found { IsInOrder (leaves self.old) → IsSome (leaf_at (leaves self.old) (place leaf)) → IsSome result }
+        ensures found { IsInOrder (leaves self.old) → IsSome (leaf_at (leaves self.old) (key leaf)) → IsSome result }
         ensures leaves { IsInOrder (leaves self.old) → leaves self.new ≡ without_leaf leaf (leaves self.old) }
     {
         let Tree::Fork(mut root) = self.take() else {
@@ -156,7 +156,7 @@ fn balanced(mut root: Box<Node>) -> Box<Node>
         root.right = leaning_right(root.right.take());
         return turned_left(root);
     }
-    root.settle();
+    root.update_height();
     root
 }
 
@@ -194,9 +194,9 @@ fn turned_right(mut root: Box<Node>) -> Box<Node>
         return root;
     };
     root.left = top.right.take();
-    root.settle();
+    root.update_height();
     top.right = Tree::Fork(root);
-    top.settle();
+    top.update_height();
     top
 }
 
@@ -208,8 +208,8 @@ fn turned_left(mut root: Box<Node>) -> Box<Node>
         return root;
     };
     root.right = top.left.take();
-    root.settle();
+    root.update_height();
     top.left = Tree::Fork(root);
-    top.settle();
+    top.update_height();
     top
 }

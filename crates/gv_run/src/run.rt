@@ -1,7 +1,8 @@
 ghost use Rattle.std.specs.Prelude.{◌≡◌, ℕ, ◌+◌, ◌*◌, ◌/◌, ◌%◌, ◌^◌, ◌<◌, ◌≤◌, ◌++◌, length, OnOk, IfSome, true, option_to_list, [], ◌∷◌};
+ghost use Rattle.gv_types.specs.Places.{end_of};
 ghost use Rattle.gv_types.specs.Memory.{bytes_of, all_ones};
 ghost use Rattle.gv_guest.specs.Placed.{Stands, memory_in};
-ghost use Rattle.gv_text.specs.Grammar.{IsForm, value_limit, end_of};
+ghost use Rattle.gv_text.specs.Grammar.{IsForm, value_limit};
 ghost use Rattle.gv_text.specs.Report.{report_text, text_of, IsPrintable};
 ghost use Rattle.gv_text.specs.Script.{nothing_known, has_room, accepts, known_after, want_of};
 ghost use Rattle.gv_text.specs.declared.script_line.Line.TheVariants.{Guest as GuestLine};

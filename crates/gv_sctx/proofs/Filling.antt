@@ -2,10 +2,11 @@
 use Rattle.std.proofs.Common.{◌≡◌, ℕ, ◌+◌, ◌*◌, ◌/◌, ◌^◌, ◌<◌, true, cond, eqb, List, [], ◌∷◌, length, refl, ap, ◌∙◌, arith, lit<}
 use Rattle.std.proofs.lemmas.List.{length-set}
 use Rattle.std.proofs.lemmas.Bool.Decides.{nat_tests}
+use Rattle.gv_types.specs.Maps.{put}
 use Rattle.gv_ctx.specs.Saved.{fields_of, saved_of}
 use Rattle.gv_ctx.specs.declared.saved.Saved.{Saved}
 use Rattle.gv_ctx.proofs.Places.{saved_of-fields_of}
-use Rattle.gv_gpu.specs.Device.{Device, put}
+use Rattle.gv_gpu.specs.Device.{Device}
 use Rattle.gv_gpu.specs.Context.{state_dword, context_of}
 use Rattle.gv_gpu.specs.Part.{Part, outside}
 use Rattle.gv_gpu.proofs.Changed.{outside-poked}

@@ -1,12 +1,13 @@
 -- A context is put away into its image, and comes back from it as it was.
 use Rattle.std.proofs.Common.{◌≡◌, ◌≢◌, ℕ, suc, zero, ◌+◌, ◌*◌, ◌/◌, ◌%◌, ◌^◌, ◌<◌, Bool, true, false, cond, eqb, ltb, List, [], ◌∷◌, length, get_or, Option, None, Some, is_some, refl, ap, sym, subst, ◌∙◌, arith, lit<}
 use Rattle.std.proofs.lemmas.Bool.Decides.{nat_tests}
+use Rattle.gv_types.specs.Maps.{put}
 use Rattle.gv_types.specs.Memory.{half_of, with_half}
 use Rattle.gv_types.specs.declared.ids.Label.{Label}
 use Rattle.gv_ctx.specs.Descriptor.{descriptor_of}
 use Rattle.gv_ctx.specs.Saved.{fields_of, saved_of}
 use Rattle.gv_ctx.proofs.Places.{saved_of-fields_of}
-use Rattle.gv_gpu.specs.Device.{Device, Loaded, put, with_loaded, with_word}
+use Rattle.gv_gpu.specs.Device.{Device, Loaded, with_loaded, with_word}
 use Rattle.gv_gpu.specs.Physical.{page_of, read_page, write_page, word_in, word_stored, operand_at, operand_stored}
 use Rattle.gv_gpu.specs.Context.{state_at, state_dword, field_dwords, fields_stored, context_saved, context_of, stopped_with, stopped, loaded_after, submitted}
 use Rattle.gv_sctx.specs.Image.{page_dword, with_dword, saved_in}

@@ -2,11 +2,12 @@
 use Rattle.std.proofs.Common.{◌≡◌, ◌≢◌, ℕ, ◌<◌, true, Option, None, Some, IsSome, length, get_or, cond, refl, ap, ◌∙◌, sym, subst, ⊎_elim, arith}
 use Rattle.std.proofs.lemmas.Bool.{cases_eq}
 use Rattle.std.proofs.lemmas.Grind.{common_steps}
+use Rattle.gv_types.specs.Maps.{put}
 use Rattle.gv_entry.specs.Entry.{global_frame}
 use Rattle.gv_entry.specs.Global.{place_of, pages_of, entry_at, with_entry_at}
 use Rattle.gv_entry.specs.Grants.{nothing_guarded, unless}
 use Rattle.gv_entry.specs.Ranges.{owns_page}
-use Rattle.gv_gpu.specs.Device.{Device, put, with_global}
+use Rattle.gv_gpu.specs.Device.{Device, with_global}
 use Rattle.gv_guest.specs.Placed.{Placed, Stands}
 use Rattle.gv_sggtt.specs.Table.{Table, IsTable, table_entry, table_written, table_grant}
 use Rattle.gv_sggtt.specs.Mirror.{NamesFrame, Mirrors}

@@ -3,7 +3,8 @@ use Rattle.std.proofs.Common.{◌≡◌, ℕ, ◌<◌, Bool, true, false, ◌&&�
 use Rattle.std.proofs.lemmas.Bool.{eq-eqb, eqb-true}
 use Rattle.std.proofs.lemmas.List.Folds.{list_any-append, list_any_at}
 use Rattle.std.proofs.lemmas.Grind.{common_steps}
-use Rattle.gv_gpu.specs.Device.{Device, put, added, released}
+use Rattle.gv_types.specs.Maps.{put}
+use Rattle.gv_gpu.specs.Device.{Device, added, released}
 use Rattle.gv_gpu.specs.Part.{outside, is_named, is_shadow_of, window_part}
 use Rattle.gv_gpu.proofs.Changed.{outside-added, outside-released}
 use Rattle.gv_sctx.specs.Context.{shadow_label}

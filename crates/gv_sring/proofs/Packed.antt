@@ -3,8 +3,9 @@ use Rattle.std.proofs.Common.{◌≡◌, ◌≢◌, ℕ, suc, zero, ◌+◌, ◌
 use Rattle.std.proofs.lemmas.List.{length-set, get_or-replicate, get_or_past}
 use Rattle.std.proofs.lemmas.Bool.{cases_lt, cases_eq}
 use Rattle.std.proofs.lemmas.Bool.Decides.{nat_tests}
+use Rattle.gv_types.specs.Maps.{put}
 use Rattle.gv_types.specs.Memory.{zero_words, length-zero_words}
-use Rattle.gv_gpu.specs.Device.{Device, put, poked}
+use Rattle.gv_gpu.specs.Device.{Device, poked}
 use Rattle.gv_gpu.specs.Part.{Part, outside}
 use Rattle.gv_gpu.proofs.Changed.{outside-poked}
 use Rattle.gv_sring.specs.Packing.{packed, packed_into, words_in, HoldsPart}

@@ -3,8 +3,9 @@ use Rattle.std.proofs.Common.{◌≡◌, ◌≢◌, ℕ, ◌+◌, ◌*◌, ◌%�
 use Rattle.std.proofs.lemmas.Bool.{cases_lt, cases_eq}
 use Rattle.std.proofs.lemmas.Bool.Decides.{nat_tests}
 use Rattle.std.proofs.lemmas.Grind.{common_steps}
+use Rattle.gv_types.specs.Maps.{put}
 use Rattle.gv_types.specs.Memory.{zero_words, length-zero_words}
-use Rattle.gv_gpu.specs.Device.{Device, put, added, released, with_global}
+use Rattle.gv_gpu.specs.Device.{Device, added, released, with_global}
 use Rattle.gv_gpu.specs.Part.{outside, window_part, is_named, is_shadow_of}
 use Rattle.gv_gpu.proofs.Changed.{outside-global}
 use Rattle.gv_sctx.specs.Context.{shadow_label}

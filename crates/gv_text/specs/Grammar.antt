@@ -4,6 +4,7 @@
 use Rattle.std.specs.Prelude.{ℕ, ◌+◌, ◌-◌, ◌*◌, ◌%◌, ◌^◌, ◌<◌, ◌≤◌, ◌≡◌, List, [], ◌∷◌, Option, Some, None, Bool, true, not, nat_lt, nat_le, ◌==◌, ◌&&◌, ◌||◌, if◌then◌else◌, length, codes}
 use Rattle.std.specs.List.{slice_split, list_any, AllByRecursion}
 use Rattle.std.specs.Str.{bytes_eq}
+use Rattle.gv_types.specs.Places.{end_of}
 use Rattle.gv_types.specs.Memory.{bytes_of}
 use Rattle.gv_types.specs.declared.event.Width.{Width}
 use Rattle.gv_types.specs.declared.event.Width.TheVariants.{Four, Eight}
@@ -34,12 +35,6 @@ write_access word =
     else (if bytes_eq word (codes "b4") then Some (places.Aperture, Four)
     else (if bytes_eq word (codes "b8") then Some (places.Aperture, Eight)
     else None)))))
-
--- one more than the highest address of a place, and than the highest value of an access
-abbrev pub end_of : Place → ℕ
-end_of places.Memory = 2 ^ 64
-end_of places.Registers = 0x1000000
-end_of places.Aperture = 2 ^ 32
 
 abbrev pub value_limit : Width → ℕ
 value_limit Four = 2 ^ 32

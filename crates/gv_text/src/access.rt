@@ -1,5 +1,6 @@
 ghost use Rattle.std.specs.Prelude.{◌≡◌, ◌+◌, ◌^◌, ◌<◌, ◌≤◌};
-ghost use Rattle.gv_text.specs.Grammar.{end_of, read_access, write_access, touches, touches_unserved, may_read, may_write};
+ghost use Rattle.gv_types.specs.Places.{end_of};
+ghost use Rattle.gv_text.specs.Grammar.{read_access, write_access, touches, touches_unserved, may_read, may_write};
 
 use gv_types::{Place, Width};
 

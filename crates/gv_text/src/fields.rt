@@ -1,8 +1,9 @@
 ghost use Rattle.std.specs.Prelude.{◌≡◌, ℕ, ◌+◌, ◌%◌, ◌^◌, ◌<◌, ◌≤◌, length, map, IfSome};
 ghost use Rattle.std.specs.List.{AllByRecursion};
+ghost use Rattle.gv_types.specs.Places.{end_of};
 ghost use Rattle.gv_types.specs.Memory.{bytes_of};
 ghost use Rattle.gv_text.specs.Number.{number_below};
-ghost use Rattle.gv_text.specs.Grammar.{end_of, value_limit, address_of, values_of};
+ghost use Rattle.gv_text.specs.Grammar.{value_limit, address_of, values_of};
 
 use crate::Values;
 use crate::access::highest_address;

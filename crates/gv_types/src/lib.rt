@@ -2,6 +2,7 @@
 //! the global table, and sizes and limits. What a guest's memory is stands in `specs/Memory.antt`.
 #![tactic(auto)]
 
+mod bits;
 mod event;
 mod ids;
 mod limits;
@@ -9,6 +10,7 @@ mod memory;
 mod ranges;
 mod reply;
 
+pub use bits::{half, has_bit, with_half};
 pub use event::{Event, Place, Width};
 pub use ids::{EngineId, GuestId, Label};
 pub use limits::{MAX_COMMAND_DWORDS, MAX_FRAMES, MAX_LIVE_PAGES, PAGE_BYTES, PAGE_WORDS};

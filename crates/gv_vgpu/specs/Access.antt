@@ -1,16 +1,11 @@
 -- The accesses that a guest can make.
 use Rattle.std.specs.Prelude.{ℕ, ◌%◌, ◌^◌, ◌<◌, ◌≤◌, ◌≡◌}
+use Rattle.gv_types.specs.Places.{end_of}
 use Rattle.gv_types.specs.Memory.{bytes_of, all_ones}
 use Rattle.gv_types.specs.declared.event.Event.{Event}
 use Rattle.gv_types.specs.declared.event.Event.TheVariants.{Read, Write}
 use Rattle.gv_types.specs.declared.event.Place.{Place}
 use Rattle.gv_types.specs.declared.event.Place.TheVariants as places
-
--- one more than the highest address of a place
-abbrev pub end_of : Place → ℕ
-end_of places.Memory = 2 ^ 64
-end_of places.Registers = 0x1000000
-end_of places.Aperture = 2 ^ 32
 
 -- Its address is aligned and in the place, and the value of a write fits.
 abbrev pub IsAccess : Event → Type 0

@@ -1,4 +1,5 @@
 ghost use Rattle.std.specs.Prelude.{◌≡◌, ℕ, ◌+◌, ◌*◌, ◌/◌, ◌%◌, ◌^◌, ◌<◌, ◌≤◌, length, IfOk, OnOk, IsOk, Ok, None, Bool, if◌then◌else◌};
+ghost use Rattle.gv_types.specs.Places.{end_of};
 ghost use Rattle.gv_types.specs.Memory.{bytes_of, all_ones, memory_read, memory_write};
 ghost use Rattle.gv_entry.specs.Ranges.{InParts, is_in};
 ghost use Rattle.gv_gpu.specs.Change.{ChangesOnly};
@@ -7,16 +8,16 @@ ghost use Rattle.gv_gpu.specs.Part.{outside, frames_part, entries_part, access_p
 ghost use Rattle.gv_guest.specs.Placed.{Stands, nowhere};
 ghost use Rattle.gv_sggtt.specs.Mirror.{AreAbsent};
 ghost use Rattle.gv_sggtt.specs.Table.{table_grant};
-ghost use Rattle.gv_vgpu.specs.Access.{IsAccess, end_of};
+ghost use Rattle.gv_vgpu.specs.Access.{IsAccess};
 ghost use Rattle.gv_vgpu.specs.Device.{new_device, function_reset, aperture_frame, aperture_read, aperture_written, table_at, table_read, table_written, dword_read, dword_written, dwords_read, dwords_written, one_engine_reset, device_reset, range_read, range_written};
 ghost use Rattle.gv_vgpu.specs.Step.{guest_of, value_read, value_written, answer};
 
-use gv_gpu::{Gpu, GpuFailed, half, with_half};
+use gv_gpu::{Gpu, GpuFailed};
 use gv_guest::Memory;
 use gv_irq::Irq;
 use gv_regs::{Effect, Lookup, Registers, Target, engines_reset};
 use gv_sggtt::GlobalTable;
-use gv_types::{Answer, EngineId, Event, GuestId, OutOfMemory, Place, Ranges, Reply, Stop, Width};
+use gv_types::{Answer, EngineId, Event, GuestId, OutOfMemory, Place, Ranges, Reply, Stop, Width, half, with_half};
 use std::alloc::Global;
 
 /// Where the global table begins in the register range.

@@ -1,5 +1,5 @@
 use Rattle.std.proofs.Common.{◌≡◌, ℕ, ◌<◌, get_or}
-use Rattle.gv_gpu.specs.Step.{colour_byte}
+use Rattle.gv_cmd.specs.Effect.{colour_byte}
 use Rattle.gv_engine.proofs.rows.colour_bytes.Given as goal
 
 abbrev pub invariant-loop-n : goal.invariant-loop-n

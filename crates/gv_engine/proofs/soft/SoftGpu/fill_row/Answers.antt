@@ -1,5 +1,5 @@
 use Rattle.std.proofs.Common.{◌∙◌, get_or}
-use Rattle.gv_gpu.specs.Step.{colour_byte}
+use Rattle.gv_cmd.specs.Effect.{colour_byte}
 use Rattle.gv_engine.specs.Running.{stepping}
 use Rattle.gv_engine.specs.Whole.{whole}
 use Rattle.gv_engine.proofs.RowLemmas.{bytes_stored-same}

@@ -1,6 +1,6 @@
 use Rattle.std.proofs.Common.{◌≡◌, ℕ, ◌+◌, ◌-◌, [], length, map, set, get_or, sum_by, length-set, ap, sym, subst, ◌∙◌, arith}
 use Rattle.std.proofs.lemmas.Grind.{common_steps}
-use Rattle.gv_rmap.specs.Leaves.{place, with_leaf, IsInOrder}
+use Rattle.gv_rmap.specs.Leaves.{key, with_leaf, IsInOrder}
 use Rattle.gv_rmap.specs.Chains.{chain_of}
 use Rattle.gv_rmap.specs.Tree.{leaves}
 use Rattle.gv_rmap.proofs.Order.{order_with, length-with_leaf, leaf_at-with_leaf, leaf_at-with_other}
@@ -46,5 +46,5 @@ returns-clause-after c =
 pub returns-clause-changes : goal.returns-clause-changes
 returns-clause-changes c =
     let now = c.args.self.now in
-    changes-set now _ c.args.frame (place c.args.leaf) _ (with_leaf c.args.leaf (chain_of now c.args.frame)) c.requires.frame (written c)
+    changes-set now _ c.args.frame (key c.args.leaf) _ (with_leaf c.args.leaf (chain_of now c.args.frame)) c.requires.frame (written c)
     (leaf_at-with_leaf c.args.leaf (chain_of now c.args.frame) c.requires.absent) (leaf_at-with_other c.args.leaf (chain_of now c.args.frame))

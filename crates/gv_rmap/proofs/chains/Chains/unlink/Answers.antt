@@ -1,6 +1,6 @@
 use Rattle.std.proofs.Common.{◌≡◌, ℕ, ◌+◌, [], length, map, set, get_or, sum_by, length-set, not, eqb, ap, sym, subst, ◌∙◌, arith}
 use Rattle.std.proofs.lemmas.Grind.{common_steps}
-use Rattle.gv_rmap.specs.Leaves.{place, without_leaf, IsInOrder}
+use Rattle.gv_rmap.specs.Leaves.{key, without_leaf, IsInOrder}
 use Rattle.gv_rmap.specs.Chains.{chain_of}
 use Rattle.gv_rmap.specs.Tree.{leaves}
 use Rattle.gv_rmap.proofs.Order.{order_filter, length-without_leaf, leaf_at-without_leaf, leaf_at-without_other}
@@ -31,7 +31,7 @@ invariant_of-self c =
     let shorter = length-without_leaf c.args.leaf (chain_of now c.args.frame) (order c c.args.frame) c.requires.linked in
     record {
       order = λ f. subst (λ l. IsInOrder (get_or l f [])) (sym (written c))
-          (order-set now.chains c.args.frame (without_leaf c.args.leaf (chain_of now c.args.frame)) c.requires.frame (order c) (order_filter (λ other. not (eqb (place other) (place c.args.leaf))) (chain_of now c.args.frame) (order c c.args.frame)) f);
+          (order-set now.chains c.args.frame (without_leaf c.args.leaf (chain_of now c.args.frame)) c.requires.frame (order c) (order_filter (λ other. not (eqb (key other) (key c.args.leaf))) (chain_of now c.args.frame) (order c c.args.frame)) f);
       frames = rw length-set c.self.invariant.frames;
       nodes = ap (λ l. sum_by length l + length c.push_reserved.new.self.items) (written c) ∙ omega (arith, counted, shorter, pushes, ap (sum_by length) seen, c.self.invariant.nodes);
       room = rw c.push_reserved.ensures.capacity c.self.invariant.room;
@@ -46,5 +46,5 @@ returns-clause-after c =
 pub returns-clause-changes : goal.returns-clause-changes
 returns-clause-changes c =
     let now = c.args.self.now in
-    changes-set now _ c.args.frame (place c.args.leaf) _ (without_leaf c.args.leaf (chain_of now c.args.frame)) c.requires.frame (written c)
+    changes-set now _ c.args.frame (key c.args.leaf) _ (without_leaf c.args.leaf (chain_of now c.args.frame)) c.requires.frame (written c)
     (leaf_at-without_leaf c.args.leaf (chain_of now c.args.frame)) (leaf_at-without_other c.args.leaf (chain_of now c.args.frame))

@@ -1,5 +1,5 @@
 use Rattle.std.proofs.Common.{◌≡◌, ◌∷◌, ◌++◌, ◌<◌, ◌≤◌, ap, sym, ◌∙◌, arith}
-use Rattle.gv_rmap.specs.Leaves.{place}
+use Rattle.gv_rmap.specs.Leaves.{key}
 use Rattle.gv_rmap.specs.Tree.{leaves}
 use Rattle.gv_rmap.proofs.Sides.{goes_left, goes_right, goes_here, stands_left, stands_right, not_before}
 use Rattle.gv_rmap.proofs.tree.Tree.+remove.Goals as goal
@@ -8,7 +8,7 @@ pub returns-then-is_before-clause-found : goal.returns-then-is_before-clause-fou
 returns-then-is_before-clause-found t c = λ order there.
     let root = c.in-Fork.root.value in
     let parts : leaves c.args.self.now ≡ leaves root.left ++ root.leaf ∷ leaves root.right = ap leaves (sym c.in-Fork.ensures.taken) in
-    let before : place c.args.leaf < place root.leaf = rw c.deref.ensures at (c.is_before.ensures.0 c.if-is_before.true) in
+    let before : key c.args.leaf < key root.leaf = rw c.deref.ensures at (c.is_before.ensures.0 c.if-is_before.true) in
     let side = stands_left (leaves c.args.self.now) (leaves root.left) root.leaf (leaves root.right) parts c.args.leaf before order there in
     (rw c.deref_mut.ensures.value at c.remove-node.ensures.found) side.0 side.1
 
@@ -16,7 +16,7 @@ pub returns-then-is_before-clause-leaves : goal.returns-then-is_before-clause-le
 returns-then-is_before-clause-leaves t c = λ order.
     let root = c.in-Fork.root.value in
     let parts : leaves c.args.self.now ≡ leaves root.left ++ root.leaf ∷ leaves root.right = ap leaves (sym c.in-Fork.ensures.taken) in
-    let before : place c.args.leaf < place root.leaf = rw c.deref.ensures at (c.is_before.ensures.0 c.if-is_before.true) in
+    let before : key c.args.leaf < key root.leaf = rw c.deref.ensures at (c.is_before.ensures.0 c.if-is_before.true) in
     c.balanced.ensures
     ∙ rw c.deref_mut.ensures.value
     (goes_left (leaves c.args.self.now) (leaves root.left) root.leaf (leaves root.right) parts c.args.leaf (leaves c.remove-node.new.self) before (rw c.deref_mut.ensures.value at c.remove-node.ensures.leaves) order)
@@ -25,7 +25,7 @@ pub returns-then-is_before-2-clause-found : goal.returns-then-is_before-2-clause
 returns-then-is_before-2-clause-found t c = λ order there.
     let root = c.in-Fork.root.value in
     let parts : leaves c.args.self.now ≡ leaves root.left ++ root.leaf ∷ leaves root.right = ap leaves (sym c.in-Fork.ensures.taken) in
-    let behind : place root.leaf < place c.args.leaf = rw c.deref-2.ensures at (c.is_before-2.ensures.0 c.if-is_before-2.true) in
+    let behind : key root.leaf < key c.args.leaf = rw c.deref-2.ensures at (c.is_before-2.ensures.0 c.if-is_before-2.true) in
     let side = stands_right (leaves c.args.self.now) (leaves root.left) root.leaf (leaves root.right) parts c.args.leaf behind order there in
     (rw c.deref_mut-then-is_before-2.ensures.value at c.remove-node-then-is_before-2.ensures.found) side.0 side.1
 
@@ -33,7 +33,7 @@ pub returns-then-is_before-2-clause-leaves : goal.returns-then-is_before-2-claus
 returns-then-is_before-2-clause-leaves t c = λ order.
     let root = c.in-Fork.root.value in
     let parts : leaves c.args.self.now ≡ leaves root.left ++ root.leaf ∷ leaves root.right = ap leaves (sym c.in-Fork.ensures.taken) in
-    let behind : place root.leaf < place c.args.leaf = rw c.deref-2.ensures at (c.is_before-2.ensures.0 c.if-is_before-2.true) in
+    let behind : key root.leaf < key c.args.leaf = rw c.deref-2.ensures at (c.is_before-2.ensures.0 c.if-is_before-2.true) in
     c.balanced-then-is_before-2.ensures
     ∙ rw c.deref_mut-then-is_before-2.ensures.value
     (goes_right (leaves c.args.self.now) (leaves root.left) root.leaf (leaves root.right) parts c.args.leaf (leaves c.remove-node-then-is_before-2.new.self) behind (rw c.deref_mut-then-is_before-2.ensures.value at c.remove-node-then-is_before-2.ensures.leaves) order)
@@ -42,9 +42,9 @@ pub returns-clause-leaves : goal.returns-clause-leaves
 returns-clause-leaves t c = λ order.
     let root = c.in-Fork.root.value in
     let parts : leaves c.args.self.now ≡ leaves root.left ++ root.leaf ∷ leaves root.right = ap leaves (sym c.in-Fork.ensures.taken) in
-    let behind : place root.leaf ≤ place c.args.leaf = rw c.deref.ensures at (not_before _ _ _ c.is_before.ensures c.if-is_before.false) in
-    let before : place c.args.leaf ≤ place root.leaf = rw c.deref-2.ensures at (not_before _ _ _ c.is_before-2.ensures c.if-is_before-2.false) in
-    let same : place root.leaf ≡ place c.args.leaf = omega arith in
+    let behind : key root.leaf ≤ key c.args.leaf = rw c.deref.ensures at (not_before _ _ _ c.is_before.ensures c.if-is_before.false) in
+    let before : key c.args.leaf ≤ key root.leaf = rw c.deref-2.ensures at (not_before _ _ _ c.is_before-2.ensures c.if-is_before-2.false) in
+    let same : key root.leaf ≡ key c.args.leaf = omega arith in
     let gone = goes_here (leaves c.args.self.now) (leaves root.left) root.leaf (leaves root.right) parts c.args.leaf same order in
     let left : c.take-2.result ≡ root.left = c.take-2.ensures.taken ∙ ap (λ n. n.left) c.deref_mut-2.ensures.value in
     let right : c.take-3.result ≡ root.right = c.take-3.ensures.taken ∙ ap (λ n. n.right) c.deref_mut-3.ensures.value ∙ ap (λ n. n.right) c.deref_mut-2.ensures.value in

@@ -1,5 +1,14 @@
-ghost use Rattle.std.specs.Prelude.{◌≡◌};
+ghost use Rattle.std.specs.Prelude.{◌≡◌, ◌<◌};
+ghost use Rattle.gv_types.specs.Bits.{has_bit};
 ghost use Rattle.gv_types.specs.Memory.{half_of, with_half};
+
+/// Whether the dword has the bit.
+pub fn has_bit(dword: u32, bit: u8) -> bool
+    requires { bit < 32 }
+    ensures { result ≡ has_bit dword bit }
+{
+    (dword >> bit) & 1 == 1
+}
 
 /// Four bytes of a word: its low half where the address is a multiple of 8, else its high half.
 pub fn half(word: u64, at: u64) -> u32
