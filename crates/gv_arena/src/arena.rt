@@ -5,12 +5,12 @@ ghost use Rattle.gv_arena.specs.Rows.{row_copied, IsPage, IsRowCopied};
 
 use crate::numbers::Numbers;
 use crate::store::Store;
-use gv_types::OutOfMemory;
+use gv_types::{MAX_LIVE_PAGES, OutOfMemory};
 use std::alloc::Global;
 use std::marker::Model;
 
 /// How many pages an arena can have.
-const PAGE_LIMIT: usize = 131_072;
+const PAGE_LIMIT: usize = MAX_LIVE_PAGES as usize;
 
 /// How many pages are made ready where one is added and none is to spare.
 const GROWTH: usize = 64;

@@ -3,11 +3,9 @@ ghost use Rattle.std.specs.Borrow.{sem};
 ghost use Rattle.gv_types.specs.Memory.{zero_words};
 ghost use Rattle.std.specs.Prelude.{◌≡◌, ℕ, ◌<◌, List, length, IfOk, slice_index, slice_index_or, slice_set, []};
 
+use gv_types::PAGE_WORDS;
 use std::alloc::{AllocError, Allocator, Global};
 use std::marker::Model;
-
-/// How many words a page has.
-pub(crate) const PAGE_WORDS: usize = 512;
 
 /// How many pages a block has.
 pub(crate) const BLOCK_PAGES: usize = 64;

@@ -4,8 +4,9 @@ ghost use Rattle.gv_types.specs.Memory.{zero_words};
 ghost use Rattle.gv_arena.specs.Rows.{row_copied, IsPage, IsRowCopied};
 ghost use Rattle.gv_arena.specs.Zeros.{zero_pages};
 
-use crate::block::{Block, PAGE_WORDS, Page};
+use crate::block::{Block, Page};
 use crate::row::copy_bytes;
+use gv_types::PAGE_WORDS;
 use std::alloc::{AllocError, Global};
 use std::marker::Model;
 

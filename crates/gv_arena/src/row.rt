@@ -3,7 +3,8 @@ ghost use Rattle.std.specs.Prelude.{◌≡◌, ℕ, ◌+◌, ◌*◌, ◌/◌, �
 ghost use Rattle.std.specs.Int.{w64, byte_at, to_le_bytes, from_le_bytes};
 ghost use Rattle.gv_arena.specs.Rows.{bytes_of, overwritten, row_copied, AreWords, IsPage, IsCopied, IsRowCopied};
 
-use crate::block::{PAGE_WORDS, Page};
+use crate::block::Page;
+use gv_types::PAGE_WORDS;
 
 /// How many bytes a word has.
 const WORD_BYTES: usize = 8;

@@ -5,6 +5,8 @@ ghost use Rattle.gv_balloon.specs.Shares.{nothing_given, ranges_from, all_fit, A
 use crate::Given;
 use gv_types::{Ranges, Want};
 use std::alloc::{AllocError, AllocFailed, Global};
+use std::error::Error;
+use std::fmt;
 
 /// Why no ranges are given: want of memory, or pages past the end of a part.
 #[derive(Clone, Copy, Debug, PartialEq, Eq)]
@@ -12,6 +14,17 @@ pub enum AssignFault {
     OutOfMemory,
     DoesNotFit,
 }
+
+impl fmt::Display for AssignFault {
+    fn fmt<W: fmt::Write>(&self, f: &mut fmt::Formatter<W>) -> fmt::Result {
+        match self {
+            AssignFault::OutOfMemory => write!(f, "out of memory"),
+            AssignFault::DoesNotFit => write!(f, "the ranges do not fit"),
+        }
+    }
+}
+
+impl Error for AssignFault {}
 
 impl From<AllocError> for AssignFault {
     ghost use Rattle.std.specs.Prelude.{◌≡◌};

@@ -12,6 +12,9 @@ use std::error::Error;
 use std::fmt;
 use std::marker::Model;
 
+/// How many dwords the longest command has: LOAD_REGISTER_IMM with 32 pairs.
+pub const MAX_COMMAND_DWORDS: usize = 65;
+
 /// No row of the command table fits the front of the dwords.
 #[derive(Clone, Copy, Debug, PartialEq, Eq)]
 pub struct Unlisted;
@@ -28,7 +31,7 @@ impl Error for Unlisted {}
 /// pairs has the most, 65.
 #[derive(Clone, Copy, Debug, PartialEq, Eq)]
 pub struct Command {
-    words: [u32; 65],
+    words: [u32; MAX_COMMAND_DWORDS],
     count: usize,
 }
 
@@ -51,11 +54,11 @@ impl Model for Command {
 
 /// The dwords, then zeros.
 #[tactic(auto, unfolding(crate::specs::Padded::padded))]
-fn padded(words: &[u32]) -> [u32; 65]
+fn padded(words: &[u32]) -> [u32; MAX_COMMAND_DWORDS]
     requires { length words.now ≤ 65 }
     ensures { result ≡ padded words.now }
 {
-    let mut all = [0; 65];
+    let mut all = [0; MAX_COMMAND_DWORDS];
     for (n, word) in words.iter().enumerate() {
         all[n] = *word;
     }

@@ -3,6 +3,8 @@ ghost use Rattle.gv_cmd.specs.Bits.{bit, bits};
 ghost use Rattle.gv_cmd.specs.Table.{exactly, semaphore_length, store_length, load_registers_length, flush_length, interface_length, blit_length, length_of};
 ghost use Rattle.gv_cmd.specs.Kind.{IsLength};
 
+use crate::MAX_COMMAND_DWORDS;
+
 /// The header of PIPE_CONTROL, the one listed command of the 3D pipeline.
 pub(crate) const PIPE_CONTROL: u32 = 0x7a00_0004;
 
@@ -102,7 +104,7 @@ fn load_registers_length(header: u32) -> Option<usize>
     ensures { result ≡ load_registers_length header }
 {
     let dwords = length_field(header) as usize + 2;
-    (bit(header, 0) && dwords <= 65).then_some(dwords)
+    (bit(header, 0) && dwords <= MAX_COMMAND_DWORDS).then_some(dwords)
 }
 
 fn flush_length(header: u32) -> Option<usize>

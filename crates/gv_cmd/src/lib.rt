@@ -12,7 +12,7 @@ mod space;
 mod stands;
 
 pub use blit::{Blit, RowPair};
-pub use command::{Command, Unlisted, decode};
+pub use command::{Command, MAX_COMMAND_DWORDS, Unlisted, decode};
 pub use header::length;
 pub use laws::{accesses_are_aligned, live_commands_are_local};
 pub use kind::{Kind, PostWrite};

@@ -1,6 +1,7 @@
 -- The front command's dwords, one at a time, and its step.
 use Rattle.std.proofs.Common.{◌≡◌, ℕ, ◌+◌, ◌*◌, ◌<◌, ◌||◌, ◌++◌, ◌∷◌, [], Bool, false, List, length, take, set, refl, ap, sym, ◌∙◌, add-one, arith, Result}
 use Rattle.std.proofs.lemmas.Grind.{common_steps}
+use Rattle.std.proofs.lemmas.List.{take_more_set}
 use Rattle.gv_cmd.specs.Command.{decoded}
 use Rattle.gv_cmd.specs.declared.command.Unlisted.{Unlisted}
 use Rattle.gv_gpu.specs.Device.{Device, Loaded}
@@ -23,12 +24,9 @@ dwords_stray-more : (d : Device) (l : Loaded) (global : Bool) (at n : ℕ) → d
 unfolding dwords_stray
 dwords_stray-more d l global at n = rw (add-one n) refl
 
-one_more : (xs : List ℕ) (n value : ℕ) → n < length xs → take (n + 1) (set xs n value) ≡ take n xs ++ value ∷ []
-one_more xs n value within = grind (arith, common_steps)
-
 pub fetch-step : (d : Device) (root : ℕ) (global : Bool) (at n value : ℕ) (ws : List ℕ) → n < length ws → take n ws ≡ dwords_from d root global at n → value ≡ dword_at d root global (at + 4 * n) → take (n + 1) (set ws n value) ≡ dwords_from d root global at (n + 1)
 fetch-step d root global at n value ws within so_far is =
-    one_more ws n value within
+    take_more_set ws n value within
     ∙ ap (λ xs. xs ++ value ∷ []) so_far
     ∙ ap (λ v. dwords_from d root global at n ++ v ∷ []) is
     ∙ sym (dwords_from-more d root global at n)

@@ -1,6 +1,6 @@
 -- What a write makes of the state.
 use Rattle.std.proofs.Common.{◌≡◌, ℕ, suc, zero, ◌+◌, ◌*◌, ◌<◌, ◌&&◌, List, length, get_or, set, [], ◌∷◌, Option, None, Some, Result, Ok, Err, arith, Bool, true, false, eqb, ltb, cond, refl}
-use Rattle.std.proofs.lemmas.Bool.{eqb-true}
+use Rattle.std.proofs.lemmas.Bool.{eqb-true, and_parts}
 use Rattle.std.proofs.lemmas.Grind.{common_steps}
 use Rattle.std.specs.Prelude.{IfOk, OnOk}
 use Rattle.gv_types.specs.Maps.{put}
@@ -40,16 +40,8 @@ is_zeros (x ∷ xs) = eqb x 0 && is_zeros xs
 
 pub zeros-get : (xs : List ℕ) → is_zeros xs ≡ true → (k : ℕ) → get_or xs k 0 ≡ 0
 zeros-get [] all k = refl
-zeros-get (x ∷ xs) all zero = eqb-true x 0 (and_left (eqb x 0) (is_zeros xs) all)
-  where
-    and_left : (a b : Bool) → (a && b) ≡ true → a ≡ true
-    and_left true b h = refl
-    and_left false b h = cc
-zeros-get (x ∷ xs) all (suc k) = zeros-get xs (and_right (eqb x 0) (is_zeros xs) all) k
-  where
-    and_right : (a b : Bool) → (a && b) ≡ true → b ≡ true
-    and_right true b h = h
-    and_right false b h = cc
+zeros-get (x ∷ xs) all zero = eqb-true x 0 (and_parts (eqb x 0) (is_zeros xs) all).0
+zeros-get (x ∷ xs) all (suc k) = zeros-get xs ((and_parts (eqb x 0) (is_zeros xs) all).1) k
 
 pub registers-zero : register_of zero_registers ≡ (λ _ _. 0)
 unfolding zero_registers

@@ -6,11 +6,11 @@ ghost use Rattle.gv_types.specs.Memory.{zero_words};
 ghost use Rattle.gv_engine.specs.Pages.{AreLabelled, nothing_held, with_words, byte_in, bytes_put};
 
 use gv_arena::Arena;
-use gv_types::{Label, OutOfMemory};
+use gv_types::{Label, MAX_LIVE_PAGES, OutOfMemory};
 use std::alloc::Global;
 
 /// How many pages a device can have.
-const PAGE_LIMIT: usize = 131_072;
+const PAGE_LIMIT: usize = MAX_LIVE_PAGES as usize;
 
 /// A byte of a word, least first.
 pub(crate) fn byte_of(word: u64, at: u64) -> u8

@@ -11,7 +11,7 @@ use crate::place::{front_at, is_privileged, moved, stands_of};
 use crate::space::Running;
 use crate::strays::either;
 use crate::{Entry, SoftGpu};
-use gv_cmd::{Command, allowed, decode, length};
+use gv_cmd::{Command, MAX_COMMAND_DWORDS, allowed, decode, length};
 use gv_exec::{Done, run};
 use gv_gpu::Step;
 use gv_types::EngineId;
@@ -19,7 +19,7 @@ use gv_types::EngineId;
 /// The front command's dwords as they were read, and whether a read strayed.
 #[derive(Drop)]
 struct Fetched {
-    words: [u32; 65],
+    words: [u32; MAX_COMMAND_DWORDS],
     count: usize,
     strayed: bool,
 }
@@ -33,7 +33,7 @@ impl SoftGpu {
         ensures words { take count result.words ≡ dwords_from (whole self.now) context.now.root global at count }
         ensures strayed { result.strayed ≡ dwords_stray (whole self.now) (loaded_of context.now) global at count }
     {
-        let mut words = [0; 65];
+        let mut words = [0; MAX_COMMAND_DWORDS];
         let mut strayed = false;
         for n in 0..count {
             let here = at + 4 * n as u64;

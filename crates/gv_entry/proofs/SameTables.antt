@@ -2,7 +2,7 @@
 -- decide them, and the walks from the roots.
 use Rattle.std.proofs.Common.{◌≡◌, ℕ, zero, suc, ◌+◌, ◌-◌, ◌*◌, ◌/◌, ◌%◌, ◌<◌, ◌≤◌, Bool, true, false, not, ◌||◌, List, [], ◌∷◌, Option, cond, length, get_or, set, refl, sym, ap, ◌∙◌, subst, arith, eqb, ltb, ⊎_elim, inl, inr, ◌⊎◌}
 use Rattle.std.specs.List.{list_any, filter, flat_map, range_with_len}
-use Rattle.std.proofs.lemmas.Bool.{eqb-true, eq-eqb, ltb-true, or_cases, false≢true, cases_eq}
+use Rattle.std.proofs.lemmas.Bool.{eqb-true, eq-eqb, ltb-true, or_cases, false≢true, cases_eq, or_right, or_left}
 use Rattle.std.proofs.lemmas.List.{length-set, get_or-set_other}
 use Rattle.std.proofs.lemmas.List.Elements.{filter_agree}
 use Rattle.std.proofs.lemmas.Map.Views.{any-filter_same}
@@ -18,40 +18,32 @@ use Rattle.gv_entry.specs.SameTables.{has, SameTables, TablesDecide, SameTablesC
 
 -- ---- lists
 
-or_second : (a b : Bool) → b ≡ true → (a || b) ≡ true
-or_second true b h = refl
-or_second false b h = h
-
-or_one : (a b : Bool) → a ≡ true → (a || b) ≡ true
-or_one true b h = refl
-or_one false b h = cc
-
 any_agree : (p q : ℕ → Bool) (xs : List ℕ) → ((x : ℕ) → has xs x ≡ true → p x ≡ q x) → list_any p xs ≡ list_any q xs
 any_agree p q [] agree = refl
 any_agree p q (x ∷ xs) agree =
-    let first = agree x (or_one (eqb x x) (has xs x) (eq-eqb x x refl)) in
-    let others = any_agree p q xs (λ y h. agree y (or_second (eqb x y) (has xs y) h)) in
+    let first = agree x (or_left (eqb x x) (has xs x) (eq-eqb x x refl)) in
+    let others = any_agree p q xs (λ y h. agree y (or_right (eqb x y) (has xs y) h)) in
     λ i. first i || others i
 
 any_at : (p : ℕ → Bool) (xs : List ℕ) (i : ℕ) → p 0 ≡ false → p (get_or xs i 0) ≡ true → list_any p xs ≡ true
 any_at p [] i none h = cc
-any_at p (x ∷ xs) zero none h = or_one (p x) (list_any p xs) h
-any_at p (x ∷ xs) (suc i) none h = or_second (p x) (list_any p xs) (any_at p xs i none h)
+any_at p (x ∷ xs) zero none h = or_left (p x) (list_any p xs) h
+any_at p (x ∷ xs) (suc i) none h = or_right (p x) (list_any p xs) (any_at p xs i none h)
 
 any_has : (p : ℕ → Bool) (xs : List ℕ) (x : ℕ) → has xs x ≡ true → p x ≡ true → list_any p xs ≡ true
 any_has p [] x h is = cc
 any_has p (y ∷ xs) x h is =
     ⊎_elim
-    (λ same. or_one (p y) (list_any p xs) (ap p (eqb-true y x same) ∙ is))
-    (λ more. or_second (p y) (list_any p xs) (any_has p xs x more is))
+    (λ same. or_left (p y) (list_any p xs) (ap p (eqb-true y x same) ∙ is))
+    (λ more. or_right (p y) (list_any p xs) (any_has p xs x more is))
     (or_cases (eqb y x) (has xs x) h)
 
 has_range : (a n x : ℕ) → a ≤ x → x < a + n → has (range_with_len a n) x ≡ true
 has_range a zero x low high = absurd (omega arith)
 has_range a (suc n) x low high =
     ⊎_elim
-    (λ same. or_one (eqb a x) (has (range_with_len (a + 1) n) x) (eq-eqb a x same))
-    (λ differ. or_second (eqb a x) (has (range_with_len (a + 1) n) x) (has_range (a + 1) n x (omega (arith, differ)) (omega arith)))
+    (λ same. or_left (eqb a x) (has (range_with_len (a + 1) n) x) (eq-eqb a x same))
+    (λ differ. or_right (eqb a x) (has (range_with_len (a + 1) n) x) (has_range (a + 1) n x (omega (arith, differ)) (omega arith)))
     (cases_eq a x)
 
 has_filter : (p : ℕ → Bool) (xs : List ℕ) (x : ℕ) → p x ≡ true → has xs x ≡ true → has (filter p xs) x ≡ true
@@ -93,13 +85,13 @@ first true b c d h = refl
 first false b c d h = cc
 
 second : (a b c d : Bool) → b ≡ true → (a || (b || (c || (d || false)))) ≡ true
-second a b c d h = or_second a (b || (c || (d || false))) (or_one b (c || (d || false)) h)
+second a b c d h = or_right a (b || (c || (d || false))) (or_left b (c || (d || false)) h)
 
 third : (a b c d : Bool) → c ≡ true → (a || (b || (c || (d || false)))) ≡ true
-third a b c d h = or_second a (b || (c || (d || false))) (second b c d false h)
+third a b c d h = or_right a (b || (c || (d || false))) (second b c d false h)
 
 fourth : (a b c d : Bool) → d ≡ true → (a || (b || (c || (d || false)))) ≡ true
-fourth a b c d h = or_second a (b || (c || (d || false))) (third b c d false h)
+fourth a b c d h = or_right a (b || (c || (d || false))) (third b c d false h)
 
 -- a live table of one of the four levels is guarded
 pub live-guarded : (m : Memory) (roots : List ℕ) (depth table : ℕ) → depth < 4 → has (live_below m roots depth) table ≡ true → is_guarded m roots table ≡ true

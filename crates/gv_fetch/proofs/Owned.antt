@@ -1,5 +1,6 @@
 -- What is fetched makes global accesses on owned pages alone.
 use Rattle.std.proofs.Common.{◌≡◌, ℕ, suc, zero, ◌+◌, ◌-◌, ◌*◌, ◌&&◌, not, Bool, true, false, List, [], ◌∷◌, length, take, drop, get_or, leb, Option, None, Some, Result, Ok, Err, cond, refl, ap, sym, subst, ◌∙◌}
+use Rattle.std.proofs.lemmas.Bool.{and_parts}
 use Rattle.gv_types.specs.declared.reply.Reason.{Reason}
 use Rattle.gv_types.specs.declared.reply.Reason.TheVariants.{Command}
 use Rattle.gv_cmd.specs.Effect.{is_skipped}
@@ -15,17 +16,13 @@ use Rattle.gv_fetch.specs.Fetch.{GlobalSpace, dwords, owns_dwords, owns_access, 
 use Rattle.gv_fetch.proofs.Forms.{then-ok, check-ok, listed-ok}
 use Rattle.gv_fetch.specs.Owned.{AllOwned, MayAccess}
 
-and-both : (a b : Bool) → (a && b) ≡ true → (a ≡ true) × (b ≡ true)
-and-both true b h = (refl, h)
-and-both false b h = cc
-
 ok-same : (x y : List ℕ) → (let r : Result (List ℕ) Reason = Ok x in r ≡ Ok y) → x ≡ y
 ok-same x y is = cc
 
 module _ (space : GlobalSpace) where
   each : (xs : List Access) → owns_accesses space xs ≡ true → EachAccess (MayAccess space) xs
   each [] h = tt
-  each (a ∷ xs) h = let both = and-both (owns_access space a) (owns_accesses space xs) h in (both.0, each xs both.1)
+  each (a ∷ xs) h = let both = and_parts (owns_access space a) (owns_accesses space xs) h in (both.0, each xs both.1)
 
   unless : (b : Bool) (xs : List Access) → EachAccess (MayAccess space) xs → EachAccess (MayAccess space) (cond b [] xs)
   unless true xs h = tt

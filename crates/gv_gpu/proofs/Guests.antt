@@ -1,6 +1,6 @@
 -- The part of each layer is within its guest's, and the parts of two guests are apart, as are their engines.
 use Rattle.std.proofs.Common.{◌≡◌, ◌≢◌, ℕ, ◌<◌, Bool, true, false, not, ◌||◌, List, Option, None, Some, ap, ◌∙◌, ◌&&◌, eqb, arith, refl}
-use Rattle.std.proofs.lemmas.Bool.{false≢true, eqb-true}
+use Rattle.std.proofs.lemmas.Bool.{false≢true, eqb-true, or_left, or_right, or_from}
 use Rattle.std.proofs.lemmas.Bool.Decides.{nat_tests}
 use Rattle.gv_types.specs.declared.ids.Label.{Label}
 use Rattle.gv_types.specs.declared.ranges.Ranges.{Ranges}
@@ -14,14 +14,6 @@ frame_page g (Some l) is = grind (arith, nat_tests)
 shadow_page : (g : ℕ) (b : Bool) (l : Option Label) → (b && is_shadow_of g l) ≡ true → is_page_of g l ≡ true
 shadow_page g b None is = grind (arith, nat_tests)
 shadow_page g b (Some l) is = grind (arith, nat_tests)
-
-or_left : (a b : Bool) → a ≡ true → (a || b) ≡ true
-or_left true b h = refl
-or_left false b h = cc
-
-or_right : (a b : Bool) → b ≡ true → (a || b) ≡ true
-or_right true b h = refl
-or_right false b h = h
 
 one_window : (g e i : ℕ) → e < 4 → is_in_window g e i ≡ true → is_in_windows g i ≡ true
 one_window g e i four is = grind (arith, nat_tests)
@@ -91,9 +83,6 @@ other_page : (g k : ℕ) (l : Option Label) → g ≢ k → is_page_of g l ≡ t
 other_page g k None differ is = refl
 other_page g k (Some l) differ is = grind (arith, nat_tests)
 
-neither : (a b : Bool) → a ≡ false → b ≡ false → (a || b) ≡ false
-neither a b first second = ap (λ x. x || b) first ∙ second
-
 other_window : (g k i : ℕ) → g ≢ k → is_in_windows g i ≡ true → is_in_windows k i ≡ false
 other_window g k i differ is = grind (arith, nat_tests)
 
@@ -111,8 +100,8 @@ either false b P is first second = second is
 module _ (g k : ℕ) (r s : Ranges) (differ : g ≢ k) (own : InParts r) (other : InParts s) (apart : (page : ℕ) → owns_page r page ≡ true → owns_page s page ≡ false) where
   other_entry : (i : ℕ) → (owns_page r i || is_in_windows g i) ≡ true → (owns_page s i || is_in_windows k i) ≡ false
   other_entry i h = either (owns_page r i) (is_in_windows g i) _ h
-      (λ mine. neither (owns_page s i) (is_in_windows k i) (apart i mine) (below_windows r k i own mine))
-      (λ window. neither (owns_page s i) (is_in_windows k i) (past_ranges s g i other window) (other_window g k i differ window))
+      (λ mine. or_from (owns_page s i) (is_in_windows k i) (apart i mine) (below_windows r k i own mine))
+      (λ window. or_from (owns_page s i) (is_in_windows k i) (past_ranges s g i other window) (other_window g k i differ window))
 
   pub apart-standing : (here there : ℕ → Bool) → AreDisjoint here there → Apart (guest_part g r here) (standing_part k s there)
   apart-standing here there disjoint = record {

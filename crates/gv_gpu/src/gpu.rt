@@ -5,10 +5,20 @@ ghost use Rattle.gv_gpu.specs.Step.{physical_step};
 
 use crate::Step;
 use gv_types::{EngineId, GuestId, Label, OutOfMemory};
+use std::error::Error;
+use std::fmt;
 
 /// The device failed. Its count of faults rose, and nothing else changed.
 #[derive(Clone, Copy, Debug, PartialEq, Eq)]
 pub struct GpuFailed;
+
+impl fmt::Display for GpuFailed {
+    fn fmt<W: fmt::Write>(&self, f: &mut fmt::Formatter<W>) -> fmt::Result {
+        write!(f, "the device failed")
+    }
+}
+
+impl Error for GpuFailed {}
 
 /// A graphics device that several guests share. It holds host pages of 512 words, each with a label,
 /// the global table, and per engine sixteen general registers and a loaded context; and it counts.

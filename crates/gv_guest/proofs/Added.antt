@@ -2,8 +2,9 @@
 use Rattle.std.proofs.Common.{◌≡◌, ◌≢◌, ℕ, ◌<◌, List, [], ◌∷◌, ◌++◌, ◌||◌, length, get_or, map, sym, ap, ◌∙◌, arith, None, Some, true, false, Bool, eqb, refl, subst, ⊎_elim}
 use Rattle.std.proofs.lemmas.List.{same_lists, get_or-map, length-map, map_push}
 use Rattle.std.proofs.lemmas.List.Folds.{list_any-append}
-use Rattle.std.proofs.lemmas.Bool.{cases_eq, eq-eqb}
+use Rattle.std.proofs.lemmas.Bool.{cases_eq, eq-eqb, or_left}
 use Rattle.std.proofs.lemmas.Grind.{common_steps}
+use Rattle.std.proofs.Math.Bool.{or-true}
 use Rattle.gv_types.specs.Maps.{put}
 use Rattle.gv_types.specs.Memory.{zero_words, length-zero_words}
 use Rattle.gv_gpu.specs.Device.{Device, added}
@@ -15,16 +16,8 @@ use Rattle.gv_guest.proofs.Written.{own_frame}
 among_last : (pages : List ℕ) (page n : ℕ) → is_among (pages ++ page ∷ []) n ≡ (is_among pages n || (eqb page n || false))
 among_last pages page n = list_any-append (λ p. eqb p n) pages (page ∷ [])
 
-or_true : (b : Bool) → (b || true) ≡ true
-or_true true = refl
-or_true false = refl
-
-or_first : (a b : Bool) → a ≡ true → (a || b) ≡ true
-or_first true b h = refl
-or_first false b h = cc
-
 is_last : (pages : List ℕ) (page : ℕ) → is_among (pages ++ page ∷ []) page ≡ true
-is_last pages page = among_last pages page page ∙ ap (λ b. is_among pages page || (b || false)) (eq-eqb page page refl) ∙ or_true (is_among pages page)
+is_last pages page = among_last pages page page ∙ ap (λ b. is_among pages page || (b || false)) (eq-eqb page page refl) ∙ or-true (is_among pages page)
 
 module _ (d : Device) (placed : Placed) (page : ℕ) (stands : Stands d placed) (free : d.label page ≡ None) where
   abbrev grown : Placed
@@ -39,7 +32,7 @@ module _ (d : Device) (placed : Placed) (page : ℕ) (stands : Stands d placed) 
   old_page : (q : ℕ) → put d.label page (Some (frame_label placed.guest)) q ≡ Some (frame_label placed.guest) → q ≢ page → is_among (placed.pages ++ page ∷ []) q ≡ true
   old_page q h differ =
       let was : d.label q ≡ Some (frame_label placed.guest) = grind (arith, common_steps) in
-      among_last placed.pages page q ∙ or_first (is_among placed.pages q) (eqb page q || false) (stands.all q was)
+      among_last placed.pages page q ∙ or_left (is_among placed.pages q) (eqb page q || false) (stands.all q was)
 
   pub stands-added : page < 131072 → Stands after grown
   stands-added low = record {

@@ -5,7 +5,7 @@ ghost use Rattle.gv_types.specs.Memory.{memory_read, memory_write, word_of, with
 ghost use Rattle.gv_guest.specs.Placed.{Stands, memory_in, nowhere};
 
 use gv_gpu::Gpu;
-use gv_types::{GuestId, Label, OutOfMemory, Width, half, with_half};
+use gv_types::{GuestId, Label, OutOfMemory, PAGE_BYTES, PAGE_WORDS, Width, half, with_half};
 use std::alloc::Global;
 use std::marker::Model;
 
@@ -77,7 +77,7 @@ impl Frames {
         requires { number < length self.now.pages * 512 }
         ensures { result ≡ slice_index self.now.pages (number / 512) }
     {
-        self.pages[(number / 512) as usize]
+        self.pages[(number / PAGE_WORDS as u64) as usize]
     }
 
     // The word with a number, counted over all frames.
@@ -87,7 +87,7 @@ impl Frames {
         ensures { result ≡ word_of (memory_in (G.state gpu.now) self.now) number }
     {
         let page = self.page_of(number);
-        gpu.word(page, (number % 512) as usize)
+        gpu.word(page, (number % PAGE_WORDS as u64) as usize)
     }
 
     fn set_word<G: Gpu>(&self, gpu: &mut G, number: u64, value: u64)
@@ -98,7 +98,7 @@ impl Frames {
         ensures changes { ChangesOnly (frames_part self.now.guest) 1 (G.state gpu.old) (G.state gpu.new) }
     {
         let page = self.page_of(number);
-        gpu.poke(page, (number % 512) as usize, value)
+        gpu.poke(page, (number % PAGE_WORDS as u64) as usize, value)
     }
 
     /// What an aligned read gives: all ones outside memory.
@@ -107,7 +107,7 @@ impl Frames {
         requires aligned { at % bytes_of width ≡ 0 }
         ensures { result ≡ memory_read (memory_in (G.state gpu.now) self.now) width at }
     {
-        if at >= u64::from(self.count()) * 4096 {
+        if at >= u64::from(self.count()) * PAGE_BYTES {
             return width.all_ones();
         }
         let word = self.word(gpu, at / 8);
@@ -126,7 +126,7 @@ impl Frames {
         ensures stands { Stands (G.state gpu.new) self.now }
         ensures changes { ChangesOnly (frames_part self.now.guest) 1 (G.state gpu.old) (G.state gpu.new) }
     {
-        if at >= u64::from(self.count()) * 4096 {
+        if at >= u64::from(self.count()) * PAGE_BYTES {
             return;
         }
         let number = at / 8;

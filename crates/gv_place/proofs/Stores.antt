@@ -11,13 +11,8 @@ use Rattle.gv_gpu.specs.Device.{Device}
 use Rattle.gv_gpu.specs.Physical.{write_page, word_stored, operand_stored, byte_stored}
 use Rattle.gv_gpu.specs.Step.{Stepping, bytes_stored, operations}
 use Rattle.gv_sctx.specs.Context.{shadow_label}
-use Rattle.gv_place.specs.Place.{KeepsShadow}
-
--- the same labels and entries, and the same words in all shadow pages of the guest's
-pub record Unchanged (guest : ℕ) (d e : Device) : Type 0 where
-  pub label : e.label ≡ d.label
-  pub global : e.global ≡ d.global
-  pub words : (q : ℕ) → d.label q ≡ Some (shadow_label guest) → e.words q ≡ d.words q
+use Rattle.gv_place.specs.Place.{KeepsShadow, Unchanged, GoesElsewhere}
+use Rattle.gv_place.specs.Laws.{StoresKeep}
 
 -- No access that may be made, and no address of the root's memory, writes a shadow page of the guest's,
 -- whatever else was written before.
@@ -95,3 +90,9 @@ module _ (guest root : ℕ) (d : Device) where
           label = λ q own. ap (λ (f : ℕ → Option Label). f q) done.label;
           words = λ q own differ. done.words q own;
         }
+
+pub stores-keep : StoresKeep
+stores-keep guest root image d drawn ws engine privileged s rooted is may =
+    effect-keeps guest root d (GoesElsewhere guest root d)
+    (record { accessed = λ e same global at page may there. may e same page there; drawn = λ e same at page there. drawn at e same page there })
+    image ws engine privileged s rooted is may

@@ -1,6 +1,9 @@
 -- What holds of the place of a context in its copies, step by step.
-use Rattle.std.specs.Prelude.{ℕ, ◌*◌, ◌≡◌, true, false, List, length, None, Some}
+use Rattle.std.specs.Prelude.{ℕ, ◌*◌, ◌≡◌, Bool, true, false, List, length, None, Some}
 use Rattle.gv_cmd.specs.Allowed.{is_allowed}
+use Rattle.gv_cmd.specs.Effect.{effect}
+use Rattle.gv_cmd.specs.Simulation.{access, MayDo}
+use Rattle.gv_cmd.specs.Table.{kind_of}
 use Rattle.gv_cmd.specs.declared.stands.Stands.TheVariants.{Ring}
 use Rattle.gv_ctx.specs.declared.saved.Saved.{Saved}
 use Rattle.gv_fetch.specs.Items.{Items, MayAllStand}
@@ -8,12 +11,12 @@ use Rattle.gv_fetch.specs.Left.{Left, IsLeft, begun, is_done, is_privileged as o
 use Rattle.gv_gpu.specs.Context.{context_of, stopped, submitted}
 use Rattle.gv_gpu.specs.Device.{Device, Loaded, with_loaded}
 use Rattle.gv_gpu.specs.Part.{Part, inside, is_in_windows}
-use Rattle.gv_gpu.specs.Step.{fetched, settled, moved, ran_after, has_ended, physical_step}
+use Rattle.gv_gpu.specs.Step.{Stepping, operations, fetched, settled, moved, ran_after, has_ended, physical_step}
 use Rattle.gv_gpu.specs.declared.step.Step.TheVariants.{Ran, Waits, Ended}
 use Rattle.gv_scan.specs.Layout.{Layout, IsProgram, placed_layout}
 use Rattle.gv_sctx.specs.Context.{shadow_label, HasImage, HoldsContext, FitsDwords}
 use Rattle.gv_sring.specs.Copy.{Copied}
-use Rattle.gv_place.specs.Place.{StandsFor, ReadsSame, KeepsShadow}
+use Rattle.gv_place.specs.Place.{StandsFor, ReadsSame, KeepsShadow, GoesElsewhere}
 use Rattle.gv_place.specs.Seen.{left_seen, IsShort}
 use Rattle.gv_place.specs.Steps.{Runs, does}
 
@@ -75,6 +78,13 @@ PlaceStays = (d e : Device) (image : ℕ) (p : Layout) (l : Loaded) (w : Left) �
 
 abbrev pub PartKeeps : Type 0
 PartKeeps = (guest image : ℕ) (w : Part) (d e : Device) → ((n : ℕ) → w.page n (Some (shadow_label guest)) ≡ true) → ((i : ℕ) → is_in_windows guest i ≡ true → w.entry i ≡ true) → inside w e ≡ inside w d → KeepsShadow guest image d e
+
+-- A command that runs leaves the copies, where the accesses of its form and the rows that it may draw go to no shadow
+-- page of the guest's.
+abbrev pub StoresKeep : Type 0
+StoresKeep = (guest root image : ℕ) (d : Device) → ((at : ℕ) → GoesElsewhere guest root d (access false at))
+    → (ws : List ℕ) (engine : ℕ) (privileged : Bool) (s : Stepping) → s.context.root ≡ root → s.device ≡ d → MayDo (GoesElsewhere guest root d) engine privileged (kind_of ws)
+    → KeepsShadow guest image d (effect operations ws engine privileged s).after.device
 
 -- ---- loading, stopping, submitting
 

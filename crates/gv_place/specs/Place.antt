@@ -2,12 +2,13 @@
 -- copies in the window.
 use Rattle.std.specs.Prelude.{ℕ, ◌*◌, ◌%◌, ◌≡◌, ◌≢◌, true, false, length, Option, None, Some}
 use Rattle.std.specs.List.{concat}
+use Rattle.gv_cmd.specs.Simulation.{Access}
 use Rattle.gv_ctx.specs.declared.saved.Batch.{Batch}
 use Rattle.gv_ctx.specs.declared.saved.Saved.{Saved}
 use Rattle.gv_fetch.specs.Left.{Level, Fetched, At, Left}
 use Rattle.gv_gpu.specs.Device.{Device, Loaded}
 use Rattle.gv_gpu.specs.Part.{is_in_windows}
-use Rattle.gv_gpu.specs.Physical.{dword_at}
+use Rattle.gv_gpu.specs.Physical.{dword_at, write_page}
 use Rattle.gv_scan.specs.Layout.{Layout, RingAt, BatchAt}
 use Rattle.gv_sctx.specs.Context.{shadow_label}
 use Rattle.gv_sring.specs.Copy.{Copied}
@@ -43,3 +44,13 @@ pub record KeepsShadow (guest image : ℕ) (d e : Device) : Type 0 where
   pub entry : (i : ℕ) → is_in_windows guest i ≡ true → e.global i ≡ d.global i
   pub label : (q : ℕ) → d.label q ≡ Some (shadow_label guest) → e.label q ≡ d.label q
   pub words : (q : ℕ) → d.label q ≡ Some (shadow_label guest) → q ≢ image → e.words q ≡ d.words q
+
+-- Two devices with the same labels and entries, and the same words in all shadow pages of a guest's.
+pub record Unchanged (guest : ℕ) (d e : Device) : Type 0 where
+  pub label : e.label ≡ d.label
+  pub global : e.global ≡ d.global
+  pub words : (q : ℕ) → d.label q ≡ Some (shadow_label guest) → e.words q ≡ d.words q
+
+-- An access writes no shadow page of the guest's, whatever was written before to other pages.
+abbrev pub GoesElsewhere : ℕ → ℕ → Device → Access → Type 0
+GoesElsewhere guest root d a = (e : Device) → Unchanged guest d e → (page : ℕ) → write_page e root a.global a.at ≡ Some page → d.label page ≢ Some (shadow_label guest)

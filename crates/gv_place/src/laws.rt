@@ -1,4 +1,4 @@
-ghost use Rattle.gv_place.specs.Laws.{EndsWhenDone, LeftIsSeen, FetchedRuns, LiveIsRead, LiveIsPassed, StepEnds, StepRuns, StepWaits, StepStands, PlaceStays, PartKeeps, LoadedStands, StoppedStands, SubmittedStands};
+ghost use Rattle.gv_place.specs.Laws.{EndsWhenDone, LeftIsSeen, FetchedRuns, LiveIsRead, LiveIsPassed, StepEnds, StepRuns, StepWaits, StepStands, PlaceStays, PartKeeps, StoresKeep, LoadedStands, StoppedStands, SubmittedStands};
 
 /// A place stands for what is left: nothing is left exactly where the context has ended, what is left is
 /// determined by the device, and changes elsewhere leave it.
@@ -7,6 +7,7 @@ pub fn places_stand_for_what_is_left()
     ensures seen { LeftIsSeen }
     ensures stays { PlaceStays }
     ensures part { PartKeeps }
+    ensures stores { StoresKeep }
 {}
 
 /// In the ring and in fetched batches the engine runs the copy as the guest's own command.

@@ -1,6 +1,6 @@
 -- What is left of an element at work stays, and its root is a root.
 use Rattle.std.proofs.Common.{◌≡◌, ℕ, suc, zero, ◌+◌, ◌/◌, ◌%◌, ◌^◌, ◌<◌, Bool, true, false, not, ◌||◌, ◌&&◌, List, [], ◌∷◌, Option, None, Some, cond, refl, sym, ap, ◌∙◌, subst, arith, eqb, ltb, ⊎_elim, inl, inr, ◌⊎◌}
-use Rattle.std.proofs.lemmas.Bool.{eqb-true, eq-eqb, or_cases}
+use Rattle.std.proofs.lemmas.Bool.{eqb-true, eq-eqb, or_cases, or_left, or_right, or_parts}
 use Rattle.std.proofs.lemmas.Map.Views.{any-filter_same}
 use Rattle.gv_types.specs.Maps.{put}
 use Rattle.gv_types.specs.declared.event.Event.TheVariants.{Read, Write, Turn, Switch, Move, Reset}
@@ -15,7 +15,7 @@ use Rattle.gv_private.specs.Device.{Engine, PrivateDevice, Working, with_engine,
 use Rattle.gv_private.specs.Laws.{is_engine_reset, dword_resets, write_resets, ElementStays, HasRoots, FirstHasRoots, RootsStay}
 use Rattle.gv_private.specs.Registers.{is_named}
 use Rattle.gv_private.specs.Roots.{with_root, without_root, works_over, is_at_work}
-use Rattle.gv_private.proofs.Keeps.{or_first, or_second, KeptByEvents, KeptByAccesses, KeptByTurns, Anything, MayWrite, write-keeps, turn-keeps, event-always}
+use Rattle.gv_private.proofs.Keeps.{KeptByEvents, KeptByAccesses, KeptByTurns, Anything, MayWrite, write-keeps, turn-keeps, event-always}
 
 -- ---- the element of an engine, after another one was changed or in another respect
 
@@ -79,10 +79,6 @@ and_right : (a b : Bool) → a ≡ true → (a && b) ≡ false → b ≡ false
 and_right true b is none = none
 and_right false b is none = cc
 
-or_none : (a b : Bool) → (a || b) ≡ false → (a ≡ false) × (b ≡ false)
-or_none true b none = cc
-or_none false b none = (refl, none)
-
 spares : (n offset value : ℕ) → dword_resets n offset value ≡ false → target_at offset ≡ EngineReset → is_named (engines_reset value) n ≡ false
 spares n offset value none is = and_right (is_engine_reset (target_at offset)) (is_named (engines_reset value) n) (ap is_engine_reset is) none
 
@@ -90,7 +86,7 @@ may-write : (n : ℕ) (x : Option Working) (place : Place) (width : Width) (at v
 may-write n x places.Memory width at value none = tt
 may-write n x places.Registers Four at value none = spares n at value none
 may-write n x places.Registers Eight at value none =
-    let both = or_none (dword_resets n at (value % 2 ^ 32)) (dword_resets n (at + 4) (value / 2 ^ 32)) none in
+    let both = or_parts (dword_resets n at (value % 2 ^ 32)) (dword_resets n (at + 4) (value / 2 ^ 32)) none in
     (spares n at (value % 2 ^ 32) both.0, spares n (at + 4) (value / 2 ^ 32) both.1)
 may-write n x places.Aperture width at value none = tt
 
@@ -110,9 +106,9 @@ element_stays p (Reset guest) n none live = cc
 
 root_stays : (same below : Bool) (first root x : ℕ) (more : List ℕ) → (has more x ≡ true → has (with_root more root) x ≡ true) → has (first ∷ more) x ≡ true → has (cond same (first ∷ more) (cond below (root ∷ first ∷ more) (first ∷ with_root more root))) x ≡ true
 root_stays true below first root x more next there = there
-root_stays false true first root x more next there = or_second (eqb root x) (has (first ∷ more) x) there
+root_stays false true first root x more next there = or_right (eqb root x) (has (first ∷ more) x) there
 root_stays false false first root x more next there =
-    ⊎_elim (λ is. or_first (eqb first x) (has (with_root more root) x) is) (λ is. or_second (eqb first x) (has (with_root more root) x) (next is)) (or_cases (eqb first x) (has more x) there)
+    ⊎_elim (λ is. or_left (eqb first x) (has (with_root more root) x) is) (λ is. or_right (eqb first x) (has (with_root more root) x) (next is)) (or_cases (eqb first x) (has more x) there)
 
 with_root-keeps : (roots : List ℕ) (root x : ℕ) → has roots x ≡ true → has (with_root roots root) x ≡ true
 with_root-keeps [] root x there = cc
@@ -123,19 +119,19 @@ without_root-keeps roots root x other there =
     any-filter_same (λ y. eqb y x) (λ y. not (eqb y root)) true (λ y same. ap (λ k. not (eqb k root)) (eqb-true y x same) ∙ ap not other) roots ∙ there
 
 at_work : (q : PrivateDevice) (root n : ℕ) → n < 4 → works_over root (q.engines n).element ≡ true → is_at_work q root ≡ true
-at_work q root zero below is = or_first (works_over root (q.engines 0).element) (works_over root (q.engines 1).element || (works_over root (q.engines 2).element || (works_over root (q.engines 3).element || false))) is
+at_work q root zero below is = or_left (works_over root (q.engines 0).element) (works_over root (q.engines 1).element || (works_over root (q.engines 2).element || (works_over root (q.engines 3).element || false))) is
 at_work q root (suc zero) below is =
-    or_second (works_over root (q.engines 0).element) (works_over root (q.engines 1).element || (works_over root (q.engines 2).element || (works_over root (q.engines 3).element || false)))
-    (or_first (works_over root (q.engines 1).element) (works_over root (q.engines 2).element || (works_over root (q.engines 3).element || false)) is)
+    or_right (works_over root (q.engines 0).element) (works_over root (q.engines 1).element || (works_over root (q.engines 2).element || (works_over root (q.engines 3).element || false)))
+    (or_left (works_over root (q.engines 1).element) (works_over root (q.engines 2).element || (works_over root (q.engines 3).element || false)) is)
 at_work q root (suc (suc zero)) below is =
-    or_second (works_over root (q.engines 0).element) (works_over root (q.engines 1).element || (works_over root (q.engines 2).element || (works_over root (q.engines 3).element || false)))
-    (or_second (works_over root (q.engines 1).element) (works_over root (q.engines 2).element || (works_over root (q.engines 3).element || false))
-    (or_first (works_over root (q.engines 2).element) (works_over root (q.engines 3).element || false) is))
+    or_right (works_over root (q.engines 0).element) (works_over root (q.engines 1).element || (works_over root (q.engines 2).element || (works_over root (q.engines 3).element || false)))
+    (or_right (works_over root (q.engines 1).element) (works_over root (q.engines 2).element || (works_over root (q.engines 3).element || false))
+    (or_left (works_over root (q.engines 2).element) (works_over root (q.engines 3).element || false) is))
 at_work q root (suc (suc (suc zero))) below is =
-    or_second (works_over root (q.engines 0).element) (works_over root (q.engines 1).element || (works_over root (q.engines 2).element || (works_over root (q.engines 3).element || false)))
-    (or_second (works_over root (q.engines 1).element) (works_over root (q.engines 2).element || (works_over root (q.engines 3).element || false))
-    (or_second (works_over root (q.engines 2).element) (works_over root (q.engines 3).element || false)
-    (or_first (works_over root (q.engines 3).element) false is)))
+    or_right (works_over root (q.engines 0).element) (works_over root (q.engines 1).element || (works_over root (q.engines 2).element || (works_over root (q.engines 3).element || false)))
+    (or_right (works_over root (q.engines 1).element) (works_over root (q.engines 2).element || (works_over root (q.engines 3).element || false))
+    (or_right (works_over root (q.engines 2).element) (works_over root (q.engines 3).element || false)
+    (or_left (works_over root (q.engines 3).element) false is)))
 at_work q root (suc (suc (suc (suc n)))) below is = absurd (omega arith)
 
 -- a root that isn't at work is none of an element's

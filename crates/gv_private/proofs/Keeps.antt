@@ -1,7 +1,7 @@
 -- What holds of a device after each small change holds after every access and every turn.
 use Rattle.std.proofs.Common.{◌≡◌, ℕ, ◌+◌, ◌*◌, ◌/◌, ◌%◌, ◌^◌, Bool, true, false, List, [], ◌∷◌, ◌++◌, Option, None, Some, Result, Ok, Err, not, ◌&&◌, ◌||◌, cond, length, refl, sym, ap, ◌∙◌, eqb, ltb}
 use Rattle.std.specs.Prelude.{IfOk}
-use Rattle.std.proofs.lemmas.Bool.{eq-eqb, eqb-true}
+use Rattle.std.proofs.lemmas.Bool.{eq-eqb, eqb-true, or_left, or_right}
 use Rattle.std.proofs.lemmas.List.{length-set}
 use Rattle.std.specs.Option.{option_or}
 use Rattle.gv_types.specs.Maps.{put}
@@ -206,22 +206,14 @@ turn_either : (P : PrivateDevice → Type 0) (b : Bool) (x y : Turned) → P x.l
 turn_either P true x y first second = first
 turn_either P false x y first second = second
 
-pub or_first : (a b : Bool) → a ≡ true → (a || b) ≡ true
-or_first true b h = refl
-or_first false b h = cc
-
-pub or_second : (a b : Bool) → b ≡ true → (a || b) ≡ true
-or_second true b h = refl
-or_second false b h = h
-
 -- a set with another frame has it
 with-has : (same below : Bool) (first root : ℕ) (more : List ℕ) → eqb root first ≡ same → has (with_root more root) root ≡ true → has (cond same (first ∷ more) (cond below (root ∷ first ∷ more) (first ∷ with_root more root))) root ≡ true
-with-has true below first root more is there = or_first (eqb first root) (has more root) (eq-eqb first root (sym (eqb-true root first is)))
-with-has false true first root more is there = or_first (eqb root root) (has (first ∷ more) root) (eq-eqb root root refl)
-with-has false false first root more is there = or_second (eqb first root) (has (with_root more root) root) there
+with-has true below first root more is there = or_left (eqb first root) (has more root) (eq-eqb first root (sym (eqb-true root first is)))
+with-has false true first root more is there = or_left (eqb root root) (has (first ∷ more) root) (eq-eqb root root refl)
+with-has false false first root more is there = or_right (eqb first root) (has (with_root more root) root) there
 
 pub with_root-has : (roots : List ℕ) (root : ℕ) → has (with_root roots root) root ≡ true
-with_root-has [] root = or_first (eqb root root) false (eq-eqb root root refl)
+with_root-has [] root = or_left (eqb root root) false (eq-eqb root root refl)
 with_root-has (first ∷ more) root = with-has (eqb root first) (ltb root first) first root more refl (with_root-has more root)
 
 put_here : {A : Type 0} (f : ℕ → A) (k : ℕ) (value : A) → put f k value k ≡ value

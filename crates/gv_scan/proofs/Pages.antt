@@ -1,6 +1,7 @@
 -- Pages, one after the other.
 use Rattle.std.proofs.Common.{◌≡◌, ℕ, suc, zero, ◌+◌, ◌-◌, ◌*◌, ◌/◌, ◌%◌, ◌^◌, ◌<◌, ◌≤◌, ◌&&◌, Bool, true, false, length, refl, ap, sym, ◌∙◌, arith}
 use Rattle.std.proofs.lemmas.List.FromFn.{length-map-range_with_len}
+use Rattle.std.proofs.lemmas.Bool.{and_parts}
 use Rattle.gv_ctx.specs.Image.{IsImage}
 use Rattle.gv_ctx.specs.declared.image.Image.{Image}
 use Rattle.gv_fetch.specs.Fetch.{GlobalSpace, owns_pages, ring_size, ring_at, ring_count, ring_dwords}
@@ -29,19 +30,15 @@ page-away space first n count h away = pages-here space first n count h ∙ ap (
 pub page-on : (space : GlobalSpace) (first n count : ℕ) → n < count → space.owned (first + n) ≡ true → owns_pages space (first + (n + 1)) (count - (n + 1)) ≡ owns_pages space (first + n) (count - n)
 page-on space first n count h own = sym (pages-here space first n count h ∙ ap (λ b. b && owns_pages space (first + (n + 1)) (count - (n + 1))) own)
 
-and-true : (a b : Bool) → (a && b) ≡ true → (a ≡ true) × (b ≡ true)
-and-true true b h = (refl, h)
-and-true false b h = cc
-
 pub page-owned : (space : GlobalSpace) (first count n : ℕ) → owns_pages space first count ≡ true → n < count → space.owned (first + n) ≡ true
 page-owned space first zero n h less = absurd (omega arith)
 page-owned space first (suc count) zero h less =
     let e : first + 0 ≡ first = omega arith in
-    ap space.owned e ∙ (and-true (space.owned first) (owns_pages space (first + 1) count) (sym (pages-first space first count) ∙ h)).0
+    ap space.owned e ∙ (and_parts (space.owned first) (owns_pages space (first + 1) count) (sym (pages-first space first count) ∙ h)).0
 page-owned space first (suc count) (suc n) h less =
     let smaller : n < count = omega arith in
     let e : first + (suc n) ≡ first + 1 + n = omega arith in
-    ap space.owned e ∙ page-owned space (first + 1) count n (and-true (space.owned first) (owns_pages space (first + 1) count) (sym (pages-first space first count) ∙ h)).1 smaller
+    ap space.owned e ∙ page-owned space (first + 1) count n (and_parts (space.owned first) (owns_pages space (first + 1) count) (sym (pages-first space first count) ∙ h)).1 smaller
 
 below-size : (x pages : ℕ) → 1 ≤ pages → x % (pages * 4096) < pages * 4096
 below-size x pages some = let z : 0 < pages * 4096 = omega arith in omega arith

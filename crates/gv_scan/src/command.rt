@@ -8,7 +8,7 @@ ghost use Rattle.gv_fetch.specs.Fetch.{dwords, owns_dwords, batch_command, ring_
 
 use crate::Reader;
 use crate::operands::owns_operands;
-use gv_cmd::{Command, Kind, Stands, allowed, decode, length};
+use gv_cmd::{Command, Kind, MAX_COMMAND_DWORDS, Stands, allowed, decode, length};
 use gv_types::{EngineId, Reason};
 
 /// Whether so many dwords from an address are on owned pages.
@@ -26,14 +26,14 @@ fn owns_dwords<R: Reader>(reader: &R, at: u64, count: usize) -> bool
 }
 
 /// Reads so many dwords from an address.
-fn read_dwords<R: Reader>(reader: &R, at: u64, count: usize) -> [u32; 65]
+fn read_dwords<R: Reader>(reader: &R, at: u64, count: usize) -> [u32; MAX_COMMAND_DWORDS]
     requires few { count ≤ 65 }
     requires small { at < 2 ^ 48 }
     requires aligned { at % 4 ≡ 0 }
     requires owned { owns_dwords (R.space reader.now) at count ≡ true }
     ensures { take count result ≡ dwords (R.space reader.now).word at count }
 {
-    let mut words = [0; 65];
+    let mut words = [0; MAX_COMMAND_DWORDS];
     for n in 0..count {
         words[n] = reader.word((at + 4 * n as u64) as u32);
     }

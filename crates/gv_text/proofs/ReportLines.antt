@@ -1,6 +1,6 @@
 -- The lines of a text of report lines, and which of them are a guest's.
 use Rattle.std.proofs.Common.{◌≡◌, ◌≢◌, ℕ, ◌+◌, ◌<◌, Bool, true, false, not, ◌&&◌, List, [], ◌∷◌, ◌++◌, length, map, filter, take, eqb, cond, codes, refl, ap, sym, ◌∙◌, arith, one-add}
-use Rattle.std.proofs.lemmas.Bool.{not-true, lt-ltb}
+use Rattle.std.proofs.lemmas.Bool.{not-true, lt-ltb, and_parts}
 use Rattle.std.proofs.lemmas.Bool.Decides.{nat_tests}
 use Rattle.std.proofs.lemmas.List.{append_assoc, append-nil}
 use Rattle.std.proofs.lemmas.List.Splits.{slice_split-cons_no}
@@ -9,6 +9,7 @@ use Rattle.std.proofs.lemmas.Fmt.{hex_one_digit}
 use Rattle.std.specs.Cmp.Lexicographic.{unequal}
 use Rattle.std.specs.List.{slice_split, onto_first, before_first, position_or_len, flat_map, AllByRecursion}
 use Rattle.std.specs.Str.{bytes_eq}
+use Rattle.std.proofs.Math.Bool.{and-true}
 use Rattle.gv_text.specs.Grammar.{is_space}
 use Rattle.gv_text.specs.Script.{is_line_feed, is_last_line, lines_of_parts, lines_of}
 use Rattle.gv_text.specs.Report.{hex, line_text, report_text, text_of, IsPrintable}
@@ -16,7 +17,7 @@ use Rattle.gv_text.specs.Guest.{begins_with_guest, lines_of_guest, speaks_of, Li
 use Rattle.gv_text.specs.declared.report_line.ReportLine.{ReportLine}
 use Rattle.gv_text.specs.declared.report_line.ReportLine.TheVariants.{Read, Irq, Failsafe, Turn, Rota, Move, Reset, Memory, Done, Refused, TooLong, Lines, Bytes, Fold}
 use Rattle.gv_text.proofs.LineParts.{lines_of_parts-more}
-use Rattle.gv_text.proofs.WordBytes.{is_word_byte, is_word, has_no_line_feed, and_split, hex_is_word, line_text_has_no_line_feed}
+use Rattle.gv_text.proofs.WordBytes.{is_word_byte, is_word, has_no_line_feed, hex_is_word, line_text_has_no_line_feed}
 use Rattle.std.proofs.lemmas.List.Splits.{length-slice_split}
 
 pub text_of-none : text_of [] ≡ []
@@ -39,7 +40,7 @@ text_of-append xs ys = flat_map-append report_text xs ys
 split_line : (body rest : List ℕ) → has_no_line_feed body ≡ true → slice_split is_line_feed (body ++ 10 ∷ rest) ≡ body ∷ slice_split is_line_feed rest
 split_line [] rest plain = refl
 split_line (b ∷ body) rest plain =
-    let parts = and_split (not (eqb b 10)) (has_no_line_feed body) plain in
+    let parts = and_parts (not (eqb b 10)) (has_no_line_feed body) plain in
     slice_split-cons_no is_line_feed b (body ++ 10 ∷ rest) (not-true (eqb b 10) parts.0)
     ∙ ap (onto_first b) (split_line body rest parts.1)
 
@@ -56,8 +57,8 @@ lines_of-text_of (line ∷ lines) =
 first_word : (w rest : List ℕ) → is_word w ≡ true → before_first is_space (w ++ 32 ∷ rest) ≡ w
 first_word [] rest plain = refl
 first_word (b ∷ w) rest plain =
-    let parts = and_split (is_word_byte b) (is_word w) plain in
-    let no_space = (and_split (not (eqb b 10)) (not (eqb b 32)) parts.0).1 in
+    let parts = and_parts (is_word_byte b) (is_word w) plain in
+    let no_space = (and_parts (not (eqb b 10)) (not (eqb b 32)) parts.0).1 in
     let more = position_or_len is_space (w ++ 32 ∷ rest) in
     ap (λ t. take (cond t (1 + more) 0) (b ∷ w ++ 32 ∷ rest)) no_space
     ∙ ap (λ n. take n (b ∷ w ++ 32 ∷ rest)) (one-add more)
@@ -69,15 +70,11 @@ digit n small = hex_one_digit false n (omega arith) ∙ ap (λ t. cond t (48 + n
 same_digit : (a b : ℕ) → eqb (48 + a) (48 + b) ≡ eqb a b
 same_digit a b = grind (arith, nat_tests)
 
-and_true : (t : Bool) → (t && true) ≡ t
-and_true true = refl
-and_true false = refl
-
 same_guest : (a b : ℕ) → a < 8 → b < 8 → bytes_eq (hex a) (hex b) ≡ eqb a b
 same_guest a b small_a small_b =
     ap (λ w. bytes_eq w (hex b)) (digit a small_a)
     ∙ ap (bytes_eq ((48 + a) ∷ [])) (digit b small_b)
-    ∙ and_true (eqb (48 + a) (48 + b))
+    ∙ and-true (eqb (48 + a) (48 + b))
     ∙ same_digit a b
 
 abbrev with_line_feed : List ℕ → List ℕ

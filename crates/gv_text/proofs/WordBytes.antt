@@ -1,6 +1,6 @@
 -- No word of a report holds a space or a line feed.
 use Rattle.std.proofs.Common.{◌≡◌, ℕ, zero, suc, ◌+◌, ◌%◌, ◌/◌, ◌<◌, Bool, true, false, not, ◌&&◌, List, [], ◌∷◌, ◌++◌, map, eqb, ltb, refl, ap, ◌∙◌, arith}
-use Rattle.std.proofs.lemmas.Bool.{cond_both, ne_eqb}
+use Rattle.std.proofs.lemmas.Bool.{cond_both, ne_eqb, and_parts}
 use Rattle.std.specs.List.{list_all, join_with_byte}
 use Rattle.std.specs.Fmt.{digits, digits_onto, digit_glyph}
 use Rattle.gv_types.specs.declared.event.Width.{Width}
@@ -84,27 +84,23 @@ words_are_words (Fold value) = both (hex_is_word value) refl
 abbrev pub has_no_line_feed : List ℕ → Bool
 has_no_line_feed text = list_all (λ b. not (eqb b 10)) text
 
-pub and_split : (a b : Bool) → (a && b) ≡ true → (a ≡ true) × (b ≡ true)
-and_split true b h = (refl, h)
-and_split false b h = absurd (cc)
-
 word_has_no_line_feed : (w : List ℕ) → is_word w ≡ true → has_no_line_feed w ≡ true
 word_has_no_line_feed [] plain = refl
 word_has_no_line_feed (b ∷ w) plain =
-    let parts = and_split (is_word_byte b) (is_word w) plain in
-    both (and_split (not (eqb b 10)) (not (eqb b 32)) parts.0).0 (word_has_no_line_feed w parts.1)
+    let parts = and_parts (is_word_byte b) (is_word w) plain in
+    both (and_parts (not (eqb b 10)) (not (eqb b 32)) parts.0).0 (word_has_no_line_feed w parts.1)
 
 has_no_line_feed-append : (xs ys : List ℕ) → has_no_line_feed xs ≡ true → has_no_line_feed ys ≡ true → has_no_line_feed (xs ++ ys) ≡ true
 has_no_line_feed-append [] ys first second = second
 has_no_line_feed-append (x ∷ xs) ys first second =
-    let parts = and_split (not (eqb x 10)) (has_no_line_feed xs) first in
+    let parts = and_parts (not (eqb x 10)) (has_no_line_feed xs) first in
     both parts.0 (has_no_line_feed-append xs ys parts.1 second)
 
 joined_has_no_line_feed : (ws : List (List ℕ)) → list_all is_word ws ≡ true → has_no_line_feed (join_with_byte 32 ws) ≡ true
 joined_has_no_line_feed [] plain = refl
-joined_has_no_line_feed (w ∷ []) plain = word_has_no_line_feed w (and_split (is_word w) true plain).0
+joined_has_no_line_feed (w ∷ []) plain = word_has_no_line_feed w (and_parts (is_word w) true plain).0
 joined_has_no_line_feed (w ∷ v ∷ ws) plain =
-    let parts = and_split (is_word w) (list_all is_word (v ∷ ws)) plain in
+    let parts = and_parts (is_word w) (list_all is_word (v ∷ ws)) plain in
     has_no_line_feed-append w (32 ∷ join_with_byte 32 (v ∷ ws)) (word_has_no_line_feed w parts.0) (joined_has_no_line_feed (v ∷ ws) parts.1)
 
 pub line_text_has_no_line_feed : (line : ReportLine) → has_no_line_feed (line_text line) ≡ true

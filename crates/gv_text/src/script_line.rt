@@ -1,5 +1,7 @@
 use crate::Values;
 use gv_types::{Place, Want, Width};
+use std::error::Error;
+use std::fmt;
 
 /// A `guest` line: frames of memory, and pages of the low and of the high part of the global table.
 #[derive(Clone, Copy, Debug, PartialEq, Eq)]
@@ -89,3 +91,11 @@ impl Line {
 /// The bytes aren't a line of a script.
 #[derive(Clone, Copy, Debug, PartialEq, Eq)]
 pub struct BadLine;
+
+impl fmt::Display for BadLine {
+    fn fmt<W: fmt::Write>(&self, f: &mut fmt::Formatter<W>) -> fmt::Result {
+        write!(f, "the bytes are no line of a script")
+    }
+}
+
+impl Error for BadLine {}

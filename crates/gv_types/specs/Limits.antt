@@ -15,6 +15,3 @@ most_frames = 16384
 -- the host's live pages
 abbrev pub most_live_pages : ℕ
 most_live_pages = 131072
-
-abbrev pub longest_command : ℕ
-longest_command = 65

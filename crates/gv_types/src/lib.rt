@@ -13,7 +13,7 @@ mod reply;
 pub use bits::{half, has_bit, with_half};
 pub use event::{Event, Place, Width};
 pub use ids::{EngineId, GuestId, Label};
-pub use limits::{MAX_COMMAND_DWORDS, MAX_FRAMES, MAX_LIVE_PAGES, PAGE_BYTES, PAGE_WORDS};
+pub use limits::{MAX_FRAMES, MAX_LIVE_PAGES, PAGE_BYTES, PAGE_WORDS};
 pub use memory::OutOfMemory;
 pub use ranges::{Ranges, Span, Want};
 pub use reply::{Answer, Outcome, Reason, Reply, Stop};

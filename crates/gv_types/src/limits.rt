@@ -9,6 +9,3 @@ pub const MAX_FRAMES: u32 = 16_384;
 
 /// How many pages of the host are live at the most: 512 MiB.
 pub const MAX_LIVE_PAGES: u32 = 131_072;
-
-/// How many dwords the longest command has.
-pub const MAX_COMMAND_DWORDS: usize = 65;

@@ -17,7 +17,7 @@ use gv_guest::Memory;
 use gv_irq::Irq;
 use gv_regs::{Effect, Lookup, Registers, Target, engines_reset};
 use gv_sggtt::GlobalTable;
-use gv_types::{Answer, EngineId, Event, GuestId, OutOfMemory, Place, Ranges, Reply, Stop, Width, half, with_half};
+use gv_types::{Answer, EngineId, Event, GuestId, OutOfMemory, PAGE_BYTES, Place, Ranges, Reply, Stop, Width, half, with_half};
 use std::alloc::Global;
 
 /// Where the global table begins in the register range.
@@ -93,10 +93,10 @@ impl Vgpu {
         requires below { at < 2 ^ 32 }
         ensures { result ≡ aperture_read (idle_device (G.state gpu.now) self.now) width at }
     {
-        match self.aperture_frame((at / 4096) as u32) {
+        match self.aperture_frame((at / PAGE_BYTES) as u32) {
             Some(frame) => self
                 .memory
-                .read(gpu, u64::from(frame) * 4096 + at % 4096, width),
+                .read(gpu, u64::from(frame) * PAGE_BYTES + at % PAGE_BYTES, width),
             None => 0,
         }
     }
@@ -110,9 +110,9 @@ impl Vgpu {
         ensures holds { HoldsTables (G.state gpu.new) self.now }
         ensures changes { ChangesOnly (frames_part (number_of self.now)) 1 (G.state gpu.old) (G.state gpu.new) }
     {
-        if let Some(frame) = self.aperture_frame((at / 4096) as u32) {
+        if let Some(frame) = self.aperture_frame((at / PAGE_BYTES) as u32) {
             self.memory
-                .write(gpu, u64::from(frame) * 4096 + at % 4096, width, value);
+                .write(gpu, u64::from(frame) * PAGE_BYTES + at % PAGE_BYTES, width, value);
         }
     }
 
