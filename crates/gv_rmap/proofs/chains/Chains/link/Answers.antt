@@ -17,7 +17,7 @@ written : (c : goal.After-self-1) → map leaves (set c.self.inside.chains.items
 written c =
     let now = c.args.self.now in
     chains-set c.self.inside.chains.items now.chains c.args.frame c.insert.new.self (with_leaf c.args.leaf (chain_of now c.args.frame)) (ap (λ s. s.chains) c.self.view_is)
-    (c.insert.ensures (subst IsInOrder (sym (chain c)) (order c c.args.frame)) ∙ ap (with_leaf c.args.leaf) (chain c))
+    (c.insert.ensures.leaves (subst IsInOrder (sym (chain c)) (order c c.args.frame)) ∙ ap (with_leaf c.args.leaf) (chain c))
 
 popped : (c : goal.After-self-1) → length c.pop.new.self.items + 1 ≡ length c.self.inside.spare.items
 popped c = grind (arith, common_steps)
