@@ -1,6 +1,8 @@
 -- Turns, and what they do to heights.
-use Rattle.std.proofs.Common.{◌≡◌, ℕ, ◌+◌, ◌<◌, ◌≤◌, max, min, length, length-append, List, [], ◌∷◌, ◌++◌, ap, sym, subst, ◌∙◌, arith, refl, inl, inr}
+use Rattle.std.proofs.Common.{◌≡◌, ℕ, ◌+◌, ◌*◌, ◌/◌, ◌^◌, ◌<◌, ◌≤◌, max, min, length, length-append, [], ◌∷◌, ◌++◌, ap, sym, subst, arith, refl, inl, inr}
 use Rattle.std.proofs.lemmas.Bool.{cases_lt}
+use Rattle.std.proofs.lemmas.Grind.{pow_more}
+use Rattle.std.proofs.Math.Nat.{pow-le-pow_right}
 use Rattle.gv_rmap.specs.declared.leaf.Leaf.{Leaf}
 use Rattle.gv_rmap.specs.declared.tree.Tree.{Tree, Empty, Fork'}
 use Rattle.gv_rmap.specs.declared.tree.Node.{Node}
@@ -273,9 +275,14 @@ joins-first left right mid new bl br even sl sr same change done =
     let high : height mid.right ≤ height right = g.high in
     let k : height mid.left ≡ height left = ap height same in
     let is = done (record { left = subst IsBalanced (sym same) bl; right = g.balanced; left_high = omega arith; right_high = omega arith; left_small = omega arith; right_small = omega arith }) in
-    let top : new.height ≤ max (height mid.left) (height mid.right) + 1 = is.high in
-    (is.balanced, (joined-height (height left) (height right) (height mid.right) new.height low high a b (subst (λ h. max h (height mid.right) ≤ new.height) k is.low)
-      (subst (λ h. AreEven h (height mid.right) → new.height ≡ max h (height mid.right) + 1) k is.even), omega arith))
+    let top : new.height ≤ max (height mid.left) (height mid.right) + 1 = is.high in (
+      is.balanced,
+      (
+        joined-height (height left) (height right) (height mid.right) new.height low high a b (subst (λ h. max h (height mid.right) ≤ new.height) k is.low)
+            (subst (λ h. AreEven h (height mid.right) → new.height ≡ max h (height mid.right) + 1) k is.even),
+        omega arith,
+      ),
+    )
 
 -- a tree whose left side has no leaves, without its root
 pub shrinks-none : (all : Tree) (root : Node) (new : Tree) → IsBalancedNode root → height all ≡ root.height → leaves root.left ≡ [] → new ≡ root.right → Shrinks all new
@@ -301,3 +308,44 @@ shrinks-root all root left right new balanced same small is_left is_right join =
     let low : max (height left) (height right) ≤ height new = joins.low in
     let high : height new ≤ max (height left) (height right) + 1 = joins.high in
     record { balanced = joins.balanced; low = omega arith; high = omega arith }
+
+-- ---- how high a tree with so many leaves is
+
+half-more : (h l : ℕ) → h ≤ l + 2 → 2 ≤ h → 2 ^ (h / 2) ≤ 2 ^ (l / 2) * 2
+half-more h l near two =
+    let le : h / 2 ≤ l / 2 + 1 = omega arith in
+    let more : 2 ^ (h / 2) ≤ 2 ^ (l / 2 + 1) = pow-le-pow_right (omega arith) le in
+    subst (λ n. 2 ^ (h / 2) ≤ n) (pow_more 2 (l / 2)) more
+
+half-small : (h : ℕ) → h < 2 → 2 ^ (h / 2) ≡ 1
+half-small h small = let e : h / 2 ≡ 0 = omega arith in ap (λ n. 2 ^ n) e
+
+-- A tree of height h has at least 2 ^ (h / 2) - 1 leaves.
+pub has-leaves : (t : Tree) → IsBalanced t → 2 ^ (height t / 2) ≤ length (leaves t) + 1
+has-leaves Empty balanced = omega arith
+has-leaves (Fork' p left leaf right h) balanced =
+    let own : h ≡ max (height left) (height right) + 1 = balanced.0 in
+    let a : height left ≤ height right + 1 = balanced.1.0.0 in
+    let b : height right ≤ height left + 1 = balanced.1.0.1 in
+    let all : length (leaves left ++ leaf ∷ leaves right) ≡ length (leaves left) + length (leaf ∷ leaves right) = length-append (leaves left) (leaf ∷ leaves right) in
+    let l = has-leaves left balanced.1.1.0 in
+    let r = has-leaves right balanced.1.1.1 in
+    elim (cases_lt h 2) [
+      | inl small ↦ (let one = half-small h small in omega (arith, one, all))
+      | inr high ↦
+          (let x = half-more h (height left) (omega arith) high in
+          let y = half-more h (height right) (omega arith) high in
+          omega (arith, x, y, l, r, all))
+    ]
+
+-- So no chain that there can be makes a tree too high for a node's eight bits.
+pub few-high : (t : Tree) → IsBalanced t → length (leaves t) < 2 ^ 64 → height t < 200
+few-high t balanced few =
+    elim (cases_lt (height t) 200) [
+      | inl low ↦ low
+      | inr high ↦ absurd (
+          let many = has-leaves t balanced in
+          let half : 100 ≤ height t / 2 = omega arith in
+          let most : 2 ^ 100 ≤ 2 ^ (height t / 2) = pow-le-pow_right (omega arith) half in
+          omega (arith, many, most, few))
+    ]

@@ -1,5 +1,5 @@
 -- The leaves that a tree holds, from left to right, and how high it is.
-use Rattle.std.specs.Prelude.{ℕ, ◌+◌, ◌<◌, ◌≤◌, ◌≡◌, max, min, List, [], ◌∷◌, ◌++◌}
+use Rattle.std.specs.Prelude.{ℕ, ◌+◌, ◌/◌, ◌^◌, ◌<◌, ◌≤◌, ◌≡◌, max, min, length, List, [], ◌∷◌, ◌++◌}
 use Rattle.gv_rmap.specs.declared.leaf.Leaf.{Leaf}
 use Rattle.gv_rmap.specs.declared.tree.Tree.{Tree, Empty, Fork'}
 use Rattle.gv_rmap.specs.declared.tree.Node.{Node}
@@ -99,3 +99,7 @@ pub record Joins (left right joined : Tree) : Type 0 where
   pub balanced : IsBalanced joined
   pub low : max (height left) (height right) ≤ height joined
   pub high : height joined ≤ max (height left) (height right) + 1
+
+-- A balanced tree's height is at most twice the binary logarithm of one more than its leaves, and one.
+abbrev pub HeightIsLogarithmic : Type 0
+HeightIsLogarithmic = (tree : Tree) → IsBalanced tree → 2 ^ (height tree / 2) ≤ length (leaves tree) + 1

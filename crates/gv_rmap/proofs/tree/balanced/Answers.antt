@@ -1,4 +1,4 @@
-use Rattle.std.proofs.Common.{◌≡◌, ◌+◌, ◌<◌, ap, sym, subst, ◌∙◌, arith}
+use Rattle.std.proofs.Common.{◌≡◌, ◌<◌, ap, subst, ◌∙◌, arith}
 use Rattle.gv_rmap.specs.declared.tree.Tree.{Tree}
 use Rattle.gv_rmap.specs.declared.tree.Node.{Node}
 use Rattle.gv_rmap.specs.Tree.{height, IsBalanced, IsLeaningLeft, IsLeaningRight}

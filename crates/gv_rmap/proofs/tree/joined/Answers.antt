@@ -1,4 +1,4 @@
-use Rattle.std.proofs.Common.{◌≡◌, ap, ◌∙◌}
+use Rattle.std.proofs.Common.{ap}
 use Rattle.gv_rmap.specs.declared.tree.Node.{Node}
 use Rattle.gv_rmap.proofs.Heights.{joins-none, joins-first}
 use Rattle.gv_rmap.proofs.tree.joined.Goals as goal

@@ -1,6 +1,6 @@
-use Rattle.std.proofs.Common.{◌≡◌, ◌<◌, ◌≤◌, ap, sym, subst, ◌∙◌, arith}
+use Rattle.std.proofs.Common.{◌≡◌, ◌<◌, ◌≤◌, ap, subst, ◌∙◌, arith}
 use Rattle.gv_rmap.specs.declared.tree.Node.{Node}
-use Rattle.gv_rmap.specs.Tree.{height, IsBalanced, IsBalancedNode, LeansLeft}
+use Rattle.gv_rmap.specs.Tree.{height, IsBalanced, IsBalancedNode}
 use Rattle.gv_rmap.proofs.Heights.{leans-kept-right, leans-turned-right}
 use Rattle.gv_rmap.proofs.tree.leaning_right.Goals as goal
 use Rattle.gv_rmap.proofs.tree.leaning_right.Goals.{then-height, else-height}

@@ -1,7 +1,7 @@
-use Rattle.std.proofs.Common.{◌≡◌, ◌<◌, ap, sym, subst, ◌∙◌}
+use Rattle.std.proofs.Common.{◌<◌, ap, sym, subst, ◌∙◌}
 use Rattle.gv_rmap.specs.declared.tree.Tree.{Tree}
 use Rattle.gv_rmap.specs.declared.tree.Node.{Node}
-use Rattle.gv_rmap.specs.Tree.{leaves, height, IsBalanced, IsBalancedNode, Shrinks}
+use Rattle.gv_rmap.specs.Tree.{leaves, height, IsBalanced, Shrinks}
 use Rattle.gv_rmap.proofs.Heights.{shrinks-left, shrinks-none}
 use Rattle.gv_rmap.proofs.tree.Tree.+take_first.Goals as goal
 
