@@ -2,11 +2,13 @@
 #![tactic(auto)]
 
 mod chains;
+mod laws;
 mod leaf;
 mod tree;
 mod walk;
 
 pub use chains::Chains;
+pub use laws::trees_are_low;
 pub use leaf::Leaf;
 pub use walk::Walk;
 

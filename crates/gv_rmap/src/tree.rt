@@ -1,6 +1,7 @@
-ghost use Rattle.std.specs.Prelude.{◌≡◌, [], ◌∷◌, ◌++◌, None, IsSome, find, MatchOption};
+ghost use Rattle.std.specs.Prelude.{◌≡◌, ◌<◌, [], ◌∷◌, ◌++◌, None, IsSome, find, MatchOption};
 ghost use Rattle.gv_rmap.specs.Leaves.{key, IsInOrder, leaf_at, with_leaf, without_leaf, is_behind};
-ghost use Rattle.gv_rmap.specs.Tree.{leaves, leaves_of};
+ghost use Rattle.gv_rmap.specs.declared.tree.Tree.{Empty};
+ghost use Rattle.gv_rmap.specs.Tree.{leaves, leaves_of, lone_node, height, height_over, IsBalanced, IsNearlyBalanced, AreEven, Balances, IsLeaningLeft, IsLeaningRight, Grows, Shrinks, Joins, TurnsRight, TurnsLeft};
 
 use crate::Leaf;
 use std::mem;
@@ -27,7 +28,7 @@ pub(crate) struct Node {
 impl Node {
     /// A node with no sides.
     pub(crate) fn of(leaf: Leaf) -> Node
-        ensures { leaves_of result ≡ leaf ∷ [] }
+        ensures { result ≡ lone_node leaf }
     {
         Node {
             left: Tree::Empty,
@@ -39,7 +40,7 @@ impl Node {
 
     // The height follows from those of the sides.
     fn update_height(&mut self)
-        ensures { leaves_of self.new ≡ leaves_of self.old }
+        ensures { self.new ≡ record self.old { height = height_over self.old.left self.old.right } }
     {
         self.height = self
             .left
@@ -50,7 +51,9 @@ impl Node {
 }
 
 impl Tree {
-    fn height(&self) -> u8 {
+    fn height(&self) -> u8
+        ensures { result ≡ height self.now }
+    {
         match self {
             Tree::Empty => 0,
             Tree::Fork(node) => node.height,
@@ -59,14 +62,15 @@ impl Tree {
 
     fn take(&mut self) -> Tree
         ensures taken { result ≡ self.old }
-        ensures rest { leaves self.new ≡ [] }
+        ensures rest { self.new ≡ Empty }
     {
         mem::replace(self, Tree::Empty)
     }
 
     /// Puts the leaf where its key belongs, in a node that was to spare.
     pub(crate) fn insert(&mut self, leaf: Leaf, mut spare: Box<Node>)
-        ensures { IsInOrder (leaves self.old) → leaves self.new ≡ with_leaf leaf (leaves self.old) }
+        ensures leaves { IsInOrder (leaves self.old) → leaves self.new ≡ with_leaf leaf (leaves self.old) }
+        ensures balanced { IsBalanced self.old → height self.old < 200 → Grows self.old self.new }
     {
         let Tree::Fork(mut root) = self.take() else {
             *spare = Node::of(leaf);
@@ -85,6 +89,7 @@ impl Tree {
     pub(crate) fn remove(&mut self, leaf: Leaf) -> Option<Box<Node>>
         ensures found { IsInOrder (leaves self.old) → IsSome (leaf_at (leaves self.old) (key leaf)) → IsSome result }
         ensures leaves { IsInOrder (leaves self.old) → leaves self.new ≡ without_leaf leaf (leaves self.old) }
+        ensures balanced { IsBalanced self.old → height self.old < 200 → Shrinks self.old self.new }
     {
         let Tree::Fork(mut root) = self.take() else {
             return None;
@@ -104,7 +109,8 @@ impl Tree {
     }
 
     fn take_first(&mut self) -> Option<Box<Node>>
-        ensures { MatchOption result ((leaves self.old ≡ []) × (leaves self.new ≡ [])) (λ first. leaves self.old ≡ first.value.leaf ∷ leaves self.new) }
+        ensures leaves { MatchOption result ((leaves self.old ≡ []) × (leaves self.new ≡ [])) (λ first. leaves self.old ≡ first.value.leaf ∷ leaves self.new) }
+        ensures balanced { IsBalanced self.old → height self.old < 200 → Shrinks self.old self.new }
     {
         let Tree::Fork(mut root) = self.take() else {
             return None;
@@ -133,7 +139,8 @@ impl Tree {
 
 // The leaves of the two trees, the left ones first.
 fn joined(left: Tree, mut right: Tree) -> Tree
-    ensures { leaves result ≡ leaves left ++ leaves right }
+    ensures leaves { leaves result ≡ leaves left ++ leaves right }
+    ensures balanced { IsBalanced left → IsBalanced right → AreEven (height left) (height right) → height left < 200 → height right < 200 → Joins left right result }
 {
     let Some(mut root) = right.take_first() else {
         return left;
@@ -145,7 +152,8 @@ fn joined(left: Tree, mut right: Tree) -> Tree
 
 // The same leaves, where one side may have been higher by two.
 fn balanced(mut root: Box<Node>) -> Box<Node>
-    ensures { leaves_of result.value ≡ leaves_of root.value }
+    ensures leaves { leaves_of result.value ≡ leaves_of root.value }
+    ensures balanced { IsNearlyBalanced root.value → Balances root.value result.value }
 {
     let (left, right) = (root.left.height(), root.right.height());
     if left > right.saturating_add(1) {
@@ -161,7 +169,8 @@ fn balanced(mut root: Box<Node>) -> Box<Node>
 }
 
 fn leaning_left(tree: Tree) -> Tree
-    ensures { leaves result ≡ leaves tree }
+    ensures leaves { leaves result ≡ leaves tree }
+    ensures leaning { IsBalanced tree → height tree < 250 → IsLeaningLeft (height tree) result }
 {
     match tree {
         Tree::Fork(root) => Tree::Fork(if root.right.height() > root.left.height() {
@@ -174,7 +183,8 @@ fn leaning_left(tree: Tree) -> Tree
 }
 
 fn leaning_right(tree: Tree) -> Tree
-    ensures { leaves result ≡ leaves tree }
+    ensures leaves { leaves result ≡ leaves tree }
+    ensures leaning { IsBalanced tree → height tree < 250 → IsLeaningRight (height tree) result }
 {
     match tree {
         Tree::Fork(root) => Tree::Fork(if root.left.height() > root.right.height() {
@@ -188,7 +198,8 @@ fn leaning_right(tree: Tree) -> Tree
 
 // The root of the left side comes to the top.
 fn turned_right(mut root: Box<Node>) -> Box<Node>
-    ensures { leaves_of result.value ≡ leaves_of root.value }
+    ensures leaves { leaves_of result.value ≡ leaves_of root.value }
+    ensures turned { TurnsRight root.value.left root.value result.value }
 {
     let Tree::Fork(mut top) = root.left.take() else {
         return root;
@@ -202,7 +213,8 @@ fn turned_right(mut root: Box<Node>) -> Box<Node>
 
 // The root of the right side comes to the top.
 fn turned_left(mut root: Box<Node>) -> Box<Node>
-    ensures { leaves_of result.value ≡ leaves_of root.value }
+    ensures leaves { leaves_of result.value ≡ leaves_of root.value }
+    ensures turned { TurnsLeft root.value.right root.value result.value }
 {
     let Tree::Fork(mut top) = root.right.take() else {
         return root;

@@ -4,7 +4,7 @@ use Rattle.gv_rmap.specs.Leaves.{key, with_leaf, IsInOrder}
 use Rattle.gv_rmap.specs.Chains.{chain_of}
 use Rattle.gv_rmap.specs.Tree.{leaves}
 use Rattle.gv_rmap.proofs.Order.{order_with, length-with_leaf, leaf_at-with_leaf, leaf_at-with_other}
-use Rattle.gv_rmap.proofs.Frames.{chain-of_tree, chains-set, order-set, count-set, changes-set}
+use Rattle.gv_rmap.proofs.Frames.{frame_within, balanced-written, chain-of_tree, chains-set, order-set, count-set, changes-set}
 use Rattle.gv_rmap.proofs.chains.Chains.link.Goals as goal
 
 order : (c : goal.After-self-1) (f : ℕ) → IsInOrder (chain_of c.args.self.now f)
@@ -17,7 +17,7 @@ written : (c : goal.After-self-1) → map leaves (set c.self.inside.chains.items
 written c =
     let now = c.args.self.now in
     chains-set c.self.inside.chains.items now.chains c.args.frame c.insert.new.self (with_leaf c.args.leaf (chain_of now c.args.frame)) (ap (λ s. s.chains) c.self.view_is)
-    (c.insert.ensures (subst IsInOrder (sym (chain c)) (order c c.args.frame)) ∙ ap (with_leaf c.args.leaf) (chain c))
+    (c.insert.ensures.leaves (subst IsInOrder (sym (chain c)) (order c c.args.frame)) ∙ ap (with_leaf c.args.leaf) (chain c))
 
 popped : (c : goal.After-self-1) → length c.pop.new.self.items + 1 ≡ length c.self.inside.spare.items
 popped c = grind (arith, common_steps)
@@ -32,6 +32,8 @@ invariant_of-self c =
     record {
       order = λ f. subst (λ l. IsInOrder (get_or l f [])) (sym (written c))
           (order-set now.chains c.args.frame (with_leaf c.args.leaf (chain_of now c.args.frame)) c.requires.frame (order c) (order_with c.args.leaf (chain_of now c.args.frame) (order c c.args.frame) c.requires.absent) f);
+      balanced = balanced-written c.self.inside.chains.items c.args.frame c.index_mut.result.now c.insert.new.self (frame_within c.self.inside.chains.items now.chains c.args.frame seen c.requires.frame) c.index_mut.ensures.value c.self.invariant.balanced
+          (omega (arith, c.self.invariant.nodes, c.self.invariant.room, c.self.inside.spare.small)) (λ balanced small. (c.insert.ensures.balanced balanced small).balanced);
       frames = rw length-set c.self.invariant.frames;
       nodes = ap (λ l. sum_by length l + length c.pop.new.self.items) (written c) ∙ omega (arith, counted, longer, pops, ap (sum_by length) seen, c.self.invariant.nodes);
       room = rw c.pop.ensures.capacity c.self.invariant.room;

@@ -4,7 +4,7 @@ use Rattle.gv_rmap.specs.Leaves.{key, without_leaf, IsInOrder}
 use Rattle.gv_rmap.specs.Chains.{chain_of}
 use Rattle.gv_rmap.specs.Tree.{leaves}
 use Rattle.gv_rmap.proofs.Order.{order_filter, length-without_leaf, leaf_at-without_leaf, leaf_at-without_other}
-use Rattle.gv_rmap.proofs.Frames.{chain-of_tree, chains-set, order-set, count-set, changes-set}
+use Rattle.gv_rmap.proofs.Frames.{frame_within, balanced-written, chain-of_tree, chains-set, order-set, count-set, changes-set}
 use Rattle.gv_rmap.proofs.chains.Chains.unlink.Goals as goal
 
 order : (c : goal.After-push_reserved) (f : ℕ) → IsInOrder (chain_of c.args.self.now f)
@@ -32,6 +32,8 @@ invariant_of-self c =
     record {
       order = λ f. subst (λ l. IsInOrder (get_or l f [])) (sym (written c))
           (order-set now.chains c.args.frame (without_leaf c.args.leaf (chain_of now c.args.frame)) c.requires.frame (order c) (order_filter (λ other. not (eqb (key other) (key c.args.leaf))) (chain_of now c.args.frame) (order c c.args.frame)) f);
+      balanced = balanced-written c.self.inside.chains.items c.args.frame c.index_mut.result.now c.remove.new.self (frame_within c.self.inside.chains.items now.chains c.args.frame seen c.requires.frame) c.index_mut.ensures.value c.self.invariant.balanced
+          (omega (arith, c.self.invariant.nodes, c.self.invariant.room, c.self.inside.spare.small)) (λ balanced small. (c.remove.ensures.balanced balanced small).balanced);
       frames = rw length-set c.self.invariant.frames;
       nodes = ap (λ l. sum_by length l + length c.push_reserved.new.self.items) (written c) ∙ omega (arith, counted, shorter, pushes, ap (sum_by length) seen, c.self.invariant.nodes);
       room = rw c.push_reserved.ensures.capacity c.self.invariant.room;
