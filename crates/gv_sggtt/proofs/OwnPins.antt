@@ -4,13 +4,15 @@ use Rattle.std.specs.Prelude.{IfSome}
 use Rattle.std.proofs.lemmas.Bool.{cases_eq, eq-eqb}
 use Rattle.std.proofs.lemmas.Bool.Decides.{nat_tests}
 use Rattle.std.proofs.lemmas.Grind.{common_steps}
-use Rattle.std.proofs.lemmas.List.{length-set, get_or-set_same, get_or-set_other}
+use Rattle.std.proofs.lemmas.List.{length-set, length-replicate, get_or-set_same, get_or-set_other}
 use Rattle.std.proofs.lemmas.List.Sums.{sum_by-set, sum_by-cons, count_by-le-length, get_or-le-sum_by}
+use Rattle.gv_types.specs.declared.ranges.Ranges.{Ranges}
 use Rattle.gv_entry.specs.Entry.{global_frame}
+use Rattle.gv_entry.specs.Global.{pages_of}
 use Rattle.gv_entry.specs.Grants.{unless}
 use Rattle.gv_sggtt.specs.Linked.{is_frame, names}
 use Rattle.gv_sggtt.specs.Pins.{table_pins, HasPins, ChangesOwnPins}
-use Rattle.gv_sggtt.specs.Table.{Table, entry_grant, table_guarding, guards}
+use Rattle.gv_sggtt.specs.Table.{Table, zero_table, entry_grant, table_guarding, guards}
 
 -- A memory has the pins again.
 pub has-pins : (old new : Table) (before after : List ℕ) → new.frames ≡ old.frames → HasPins old before → ChangesOwnPins old new before after → HasPins new after
@@ -150,3 +152,17 @@ module _ (t : Table) (frame : ℕ) (flag : Bool) (within : frame < length t.guar
         let none = own-guarded t frame was in
         let back = own-free after frame (guards-same ∙ is) in
         changes_at (get_or before frame 0 + count) (omega arith)
+
+-- a table whose entries are 0 has none
+pub has-pins-zero : (ranges : Ranges) (frames : ℕ) → HasPins (zero_table ranges frames) (replicate frames 0)
+has-pins-zero ranges frames = record {
+  frames = length-replicate frames 0;
+  own = λ k h. let n = none k in omega arith;
+  others = λ k h. let n = none k in let z = zero k in omega arith;
+}
+  where
+    none : (k : ℕ) → table_pins (zero_table ranges frames) k ≡ 0
+    none k = none-counted (λ entry. is_frame k (entry_grant (zero_table ranges frames) entry)) (pages_of ranges) refl
+
+    zero : (k : ℕ) → ◌≡◌ {A = ℕ} (get_or (replicate frames 0) k 0) 0
+    zero k = grind (arith, common_steps)
