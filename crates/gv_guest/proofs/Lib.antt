@@ -1,3 +1,4 @@
 pub mod Added
 pub mod Kept
+pub mod Moved
 pub mod Written

@@ -1,7 +1,8 @@
-ghost use Rattle.std.specs.Prelude.{◌≡◌, ℕ, ◌+◌, ◌*◌, ◌/◌, ◌%◌, ◌^◌, ◌<◌, ◌≤◌, length, slice_index, IfOk, OnOk};
+ghost use Rattle.std.specs.Prelude.{◌≡◌, ◌≢◌, ℕ, ◌+◌, ◌*◌, ◌/◌, ◌%◌, ◌^◌, ◌<◌, ◌≤◌, length, slice_index, IsSome, IfOk, OnOk, OnErr};
 ghost use Rattle.gv_gpu.specs.Change.{ChangesOnly};
 ghost use Rattle.gv_gpu.specs.Part.{outside, frames_part};
 ghost use Rattle.gv_types.specs.Memory.{memory_read, memory_write, word_of, with_word, zero_memory, bytes_of, all_ones};
+ghost use Rattle.gv_guest.specs.Move.{MovesFrame, CopiesPage};
 ghost use Rattle.gv_guest.specs.Placed.{Stands, memory_in, nowhere};
 
 use gv_gpu::Gpu;
@@ -135,5 +136,42 @@ impl Frames {
             Width::Eight => value,
         };
         self.set_word(gpu, number, word)
+    }
+    /// Puts a frame into another host page, with the same words, and releases its old one.
+    pub(crate) fn move_page<G: Gpu>(&mut self, gpu: &mut G, frame: u32) -> Result<(), OutOfMemory>
+        requires stands { Stands (G.state gpu.old) self.old }
+        requires within { frame < length self.old.pages }
+        requires room { (G.state gpu.old).live < 131072 }
+        ensures moved { OnOk result (MovesFrame self.old self.new frame (G.state gpu.new)) }
+        ensures memory { OnOk result (memory_in (G.state gpu.new) self.new ≡ memory_in (G.state gpu.old) self.old) }
+        ensures stands { OnOk result (Stands (G.state gpu.new) self.new) }
+        ensures changes { OnOk result (ChangesOnly (frames_part self.old.guest) 512 (G.state gpu.old) (G.state gpu.new)) }
+        ensures frames { OnErr result (self.new ≡ self.old) }
+        ensures device { OnErr result (G.state gpu.new ≡ G.state gpu.old) }
+    {
+        let page = gpu.add_page(Label {
+            guest: self.guest,
+            shadow: false,
+        })?;
+        let place = frame as usize;
+        let old = self.pages[place];
+        copy_words(gpu, old, page);
+        gpu.release(old);
+        self.pages[place] = page;
+        Ok(())
+    }
+}
+
+fn copy_words<G: Gpu>(gpu: &mut G, from: u64, to: u64)
+    requires from { IsSome ((G.state gpu.old).label from) }
+    requires from_long { length ((G.state gpu.old).words from) ≡ 512 }
+    requires to { IsSome ((G.state gpu.old).label to) }
+    requires to_long { length ((G.state gpu.old).words to) ≡ 512 }
+    requires apart { from ≢ to }
+    ensures { CopiesPage (G.state gpu.old) (G.state gpu.new) from to }
+{
+    for index in 0..512 {
+        let word = gpu.word(from, index);
+        gpu.poke(to, index, word);
     }
 }

@@ -3,8 +3,10 @@
 
 mod frames;
 mod memory;
+mod page_move;
 mod pins;
 
 pub use frames::Frames;
 pub use memory::Memory;
+pub use page_move::PageMove;
 pub use pins::Pins;

@@ -1,10 +1,12 @@
-ghost use Rattle.std.specs.Prelude.{◌≡◌, ◌+◌, ◌-◌, ◌*◌, ◌%◌, ◌^◌, ◌<◌, ◌≤◌, length, replicate, slice_index, slice_set, IfOk, OnOk};
+ghost use Rattle.std.specs.Prelude.{◌≡◌, ◌+◌, ◌-◌, ◌*◌, ◌%◌, ◌^◌, ◌<◌, ◌≤◌, ◌↔◌, length, replicate, slice_index, slice_set, IfOk, OnOk, Ok};
 ghost use Rattle.gv_gpu.specs.Change.{ChangesOnly};
 ghost use Rattle.gv_gpu.specs.Part.{outside, frames_part};
 ghost use Rattle.gv_types.specs.Memory.{memory_read, memory_write, zero_memory, bytes_of, all_ones};
+ghost use Rattle.gv_guest.specs.Move.{IfMoved, UnlessMoved, MovesFrame};
 ghost use Rattle.gv_guest.specs.Placed.{Stands, memory_in, nowhere};
 
 use crate::frames::Frames;
+use crate::page_move::PageMove;
 use crate::pins::Pins;
 use gv_gpu::Gpu;
 use gv_types::{GuestId, OutOfMemory, Width};
@@ -104,5 +106,29 @@ impl Memory {
         ensures pins { self.new.pins ≡ slice_set self.old.pins frame (slice_index self.old.pins frame - 1) }
     {
         self.pins.unpin(frame);
+    }
+    /// Puts a frame into another host page, with the same words, and releases its old one; but a frame that
+    /// is pinned is kept.
+    pub fn move_page<G: Gpu>(&mut self, gpu: &mut G, frame: u32) -> Result<PageMove, OutOfMemory>
+        requires stands { Stands (G.state gpu.old) self.old.frames }
+        requires within { frame < length self.old.frames.pages }
+        requires counted { frame < length self.old.pins }
+        requires room { (G.state gpu.old).live < 131072 }
+        ensures kept { (result ≡ Ok PageMove.Kept) ↔ (1 ≤ slice_index self.old.pins frame) }
+        ensures moved { IfMoved result (MovesFrame self.old.frames self.new.frames frame (G.state gpu.new)) }
+        ensures pins { self.new.pins ≡ self.old.pins }
+        ensures memory { memory_in (G.state gpu.new) self.new.frames ≡ memory_in (G.state gpu.old) self.old.frames }
+        ensures stands { Stands (G.state gpu.new) self.new.frames }
+        ensures changes { ChangesOnly (frames_part self.old.frames.guest) 512 (G.state gpu.old) (G.state gpu.new) }
+
+        // Where the page didn't move nothing changes.
+        ensures unmoved { UnlessMoved result (self.new.frames ≡ self.old.frames) }
+        ensures device { UnlessMoved result (G.state gpu.new ≡ G.state gpu.old) }
+    {
+        if self.pins.of(frame) > 0 {
+            return Ok(PageMove::Kept);
+        }
+        self.frames.move_page(gpu, frame)?;
+        Ok(PageMove::Moved)
     }
 }

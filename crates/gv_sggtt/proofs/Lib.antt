@@ -1,4 +1,9 @@
+pub mod Guarded
 pub mod Kept
+pub mod Leaves
+pub mod OwnPins
 pub mod Places
+pub mod Relinked
+pub mod Setting
 pub mod Written
 pub mod WrittenPlaces

@@ -4,7 +4,7 @@ use Rattle.std.proofs.lemmas.Bool.Decides.{nat_tests}
 use Rattle.std.proofs.lemmas.Grind.{common_steps}
 use Rattle.gv_types.specs.declared.ranges.Ranges.{Ranges}
 use Rattle.gv_entry.specs.Ranges.{InParts}
-use Rattle.gv_entry.specs.Global.{place_of, entry_at, with_entry_at}
+use Rattle.gv_entry.specs.Global.{place_of, pages_of, entry_at, with_entry_at}
 
 pub place-once : (ranges : Ranges) (a b place : ℕ) → InParts ranges → place_of ranges a ≡ Some place → place_of ranges b ≡ Some place → a ≡ b
 place-once ranges a b place parts first second = let low = parts.low in let from = parts.from in let high = parts.high in grind (arith, nat_tests)
@@ -23,3 +23,7 @@ zero_at n k = grind (arith, common_steps)
 pub entry-zero : (n : ℕ) (o : Option ℕ) → ◌≡◌ {A = ℕ} (entry_at (replicate n 0) o) 0
 entry-zero n None = refl
 entry-zero n (Some k) = zero_at n k
+
+-- a place is one of the entries
+pub place-within : (ranges : Ranges) (page place : ℕ) → place_of ranges page ≡ Some place → place < pages_of ranges
+place-within ranges page place is = grind (arith, nat_tests)

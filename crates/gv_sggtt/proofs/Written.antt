@@ -3,13 +3,11 @@ use Rattle.std.proofs.Common.{◌≡◌, ◌≢◌, ℕ, ◌<◌, true, Option, 
 use Rattle.std.proofs.lemmas.Bool.{cases_eq}
 use Rattle.std.proofs.lemmas.Grind.{common_steps}
 use Rattle.gv_types.specs.Maps.{put}
-use Rattle.gv_entry.specs.Entry.{global_frame}
 use Rattle.gv_entry.specs.Global.{place_of, pages_of, entry_at, with_entry_at}
-use Rattle.gv_entry.specs.Grants.{nothing_guarded, unless}
 use Rattle.gv_entry.specs.Ranges.{owns_page}
 use Rattle.gv_gpu.specs.Device.{Device, with_global}
 use Rattle.gv_guest.specs.Placed.{Placed, Stands}
-use Rattle.gv_sggtt.specs.Table.{Table, IsTable, table_entry, table_written, table_grant}
+use Rattle.gv_sggtt.specs.Table.{Table, IsTable, table_entry, table_written, table_grant, entry_grant}
 use Rattle.gv_sggtt.specs.Mirror.{NamesFrame, Mirrors}
 use Rattle.gv_sggtt.proofs.Places.{place-once, entry-set, entry-other}
 
@@ -17,15 +15,11 @@ use Rattle.gv_sggtt.proofs.Places.{place-once, entry-set, entry-other}
 pub some-live : (d : Device) (placed : Placed) → Stands d placed → 0 < length placed.pages → (page : ℕ) × IsSome (d.label page)
 some-live d placed stands some = (get_or placed.pages 0 0, subst IsSome (sym (stands.labelled 0 some)) refl)
 
-unguarded : (o : Option ℕ) → unless nothing_guarded o ≡ o
-unguarded None = refl
-unguarded (Some frame) = refl
-
 -- what an owned page grants
-pub grant-owned : (t : Table) (page : ℕ) → owns_page t.ranges page ≡ true → table_grant t page ≡ global_frame (table_entry t page) t.frames
-grant-owned t page own = ap (λ b. cond b (unless nothing_guarded (global_frame (table_entry t page) t.frames)) None) own ∙ unguarded (global_frame (table_entry t page) t.frames)
+pub grant-owned : (t : Table) (page : ℕ) → owns_page t.ranges page ≡ true → table_grant t page ≡ entry_grant t (table_entry t page)
+grant-owned t page own = ap (λ b. cond b (entry_grant t (table_entry t page)) None) own
 
-module _ (d : Device) (t : Table) (placed : Placed) (page place value entry : ℕ) (is : IsTable t) (at : place_of t.ranges page ≡ Some place) (within : place < pages_of t.ranges) (names : NamesFrame placed (global_frame value t.frames) entry) where
+module _ (d : Device) (t : Table) (placed : Placed) (page place value entry : ℕ) (is : IsTable t) (at : place_of t.ranges page ≡ Some place) (within : place < pages_of t.ranges) (names : NamesFrame placed (entry_grant t value) entry) where
   abbrev after : Device
   after = with_global d page entry
 
@@ -51,11 +45,11 @@ module _ (d : Device) (t : Table) (placed : Placed) (page place value entry : �
     each = λ q own. ⊎_elim
         (λ same. subst (λ k. owns_page t.ranges k ≡ true → NamesFrame placed (table_grant written k) (put d.global page entry k)) (sym same)
         (λ own.
-        subst (λ o. NamesFrame placed o (put d.global page entry page)) (sym (grant-owned written page own ∙ ap (λ e. global_frame e t.frames) new_entry))
-        (subst (NamesFrame placed (global_frame value t.frames)) (sym (here q)) names))
+        subst (λ o. NamesFrame placed o (put d.global page entry page)) (sym (grant-owned written page own ∙ ap (entry_grant t) new_entry))
+        (subst (NamesFrame placed (entry_grant t value)) (sym (here q)) names))
         own)
         (λ differ.
-        let same_grant : table_grant t q ≡ table_grant written q = grant-owned t q own ∙ ap (λ e. global_frame e t.frames) (sym (old_entry q differ)) ∙ sym (grant-owned written q own) in
+        let same_grant : table_grant t q ≡ table_grant written q = grant-owned t q own ∙ ap (entry_grant t) (sym (old_entry q differ)) ∙ sym (grant-owned written q own) in
         subst (λ o. NamesFrame placed o (put d.global page entry q)) same_grant
         (subst (NamesFrame placed (table_grant t q)) (sym (there q differ)) (mirrors.each q own)))
         (cases_eq q page);

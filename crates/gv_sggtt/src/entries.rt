@@ -1,4 +1,4 @@
-ghost use Rattle.std.specs.Prelude.{◌≡◌, ◌+◌, ◌<◌, length, IfOk, MatchOption, replicate, slice_index, slice_set};
+ghost use Rattle.std.specs.Prelude.{◌≡◌, ◌+◌, ◌<◌, length, IfOk, IfSome, MatchOption, replicate, slice_index, slice_set};
 
 use gv_types::OutOfMemory;
 use std::alloc::Global;
@@ -62,16 +62,18 @@ impl Entries {
         self.written.push(place).unwrap();
     }
 
-    /// Sets the entry of one of the written places to 0, and answers the place; none, where every entry
-    /// is 0 and none is left.
-    pub(crate) fn take_written(&mut self) -> Option<usize>
-        ensures there { MatchOption result (self.new ≡ self.old) (λ place. place < length self.old.values) }
-        ensures values { MatchOption result (self.old.values ≡ replicate (length self.old.values) 0) (λ place. self.new.values ≡ slice_set self.old.values place 0) }
+    /// Sets the entry of one of the written places to 0, and answers the place and what its entry was; none,
+    /// where every entry is 0 and none is left.
+    pub(crate) fn take_written(&mut self) -> Option<(usize, u64)>
+        ensures there { MatchOption result (self.new ≡ self.old) (λ taken. taken.0 < length self.old.values) }
+        ensures entry { IfSome result (λ taken. taken.1 ≡ slice_index self.old.values taken.0) }
+        ensures values { MatchOption result (self.old.values ≡ replicate (length self.old.values) 0) (λ taken. self.new.values ≡ slice_set self.old.values taken.0 0) }
         ensures left { MatchOption result (self.old.left ≡ 0) (λ _. self.new.left + 1 ≡ self.old.left) }
     {
         let place = self.written.pop()?;
+        let entry = self.values[place];
         self.is_written[place] = false;
         self.values[place] = 0;
-        Some(place)
+        Some((place, entry))
     }
 }

@@ -3,6 +3,7 @@
 #![tactic(auto)]
 
 mod entries;
+mod linked;
 mod table;
 
 pub use table::GlobalTable;

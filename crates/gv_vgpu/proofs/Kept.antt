@@ -47,6 +47,8 @@ module _ (n : ℕ) (d e : Device) (v : Vgpu) (changes : ChangesOnly (frames_part
     stands = stands;
     frames = holds.frames;
     mirrors = mirrors-kept (entries_part (ranges_of v)) d e (ranges_of v) (λ page own. own) (leaves (apart-frames-entries (number_of v) (ranges_of v)) changes) v.table v.memory.frames refl holds.mirrors;
+    pinned = holds.pinned;
+    unguarded = holds.unguarded;
     parts = holds.parts;
     number = holds.number;
     ranges = holds.ranges;
@@ -80,6 +82,8 @@ module _ (w : Part) (d e : Device) (v : Vgpu) (here : ℕ → Bool) (covers : Co
       stands = stands-kept w d e v.memory.frames covers.frames left holds.tables.stands;
       frames = holds.tables.frames;
       mirrors = mirrors-kept w d e (ranges_of v) covers.entries left v.table v.memory.frames refl holds.tables.mirrors;
+      pinned = holds.tables.pinned;
+      unguarded = holds.tables.unguarded;
       parts = holds.tables.parts;
       number = holds.tables.number;
       ranges = holds.tables.ranges;

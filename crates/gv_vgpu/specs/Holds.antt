@@ -1,5 +1,5 @@
 -- How a guest's private device stands in the shared device.
-use Rattle.std.specs.Prelude.{◌≡◌, ℕ, List, Bool, true, false, None, if◌then◌else◌, length, slice_index_or}
+use Rattle.std.specs.Prelude.{◌≡◌, ℕ, List, Bool, true, false, None, if◌then◌else◌, length, replicate, slice_index_or}
 use Rattle.gv_types.specs.declared.ranges.Ranges.{Ranges}
 use Rattle.gv_entry.specs.Ranges.{InParts}
 use Rattle.gv_gpu.specs.Device.{Device}
@@ -8,6 +8,7 @@ use Rattle.gv_gpu.specs.Part.{Part, access_part}
 use Rattle.gv_guest.specs.Placed.{Placed, Stands, memory_in}
 use Rattle.gv_regs.specs.Registers.{map_of}
 use Rattle.gv_sggtt.specs.Mirror.{Mirrors}
+use Rattle.gv_sggtt.specs.Pins.{HasPins}
 use Rattle.gv_vgpu.specs.Device.{PrivateDevice, zero_registers}
 use Rattle.gv_vgpu.specs.declared.vgpu.Vgpu.{Vgpu}
 
@@ -25,11 +26,14 @@ pub record AreIdle (d : Device) (here : ℕ → Bool) : Type 0 where
   pub none : (e : ℕ) → here e ≡ true → d.loaded e ≡ None
   pub unwritten : (e : ℕ) → here e ≡ true → d.general e ≡ zero_registers
 
--- The guest's memory stands, and the physical entries of its ranges are those of its table.
+-- The guest's memory stands and has the table's pins, and the physical entries of its ranges are those of its
+-- table, which guards no frame yet.
 pub record HoldsTables (d : Device) (v : Vgpu) : Type 0 where
   pub stands : Stands d v.memory.frames
   pub frames : length v.memory.frames.pages ≡ v.table.frames
   pub mirrors : Mirrors d v.table v.memory.frames
+  pub pinned : HasPins v.table v.memory.pins
+  pub unguarded : v.table.guarded ≡ replicate v.table.frames false
   pub parts : InParts v.table.ranges
   pub number : v.registers.guest ≡ v.memory.frames.guest
   pub ranges : v.registers.ranges ≡ v.table.ranges

@@ -156,8 +156,7 @@ impl Vgpu {
             Width::Four => with_half(self.table.entry(page), offset, value as u32),
             Width::Eight => value,
         };
-        self.table
-            .write_entry(gpu, &self.memory.frames, page, entry)
+        self.table.write_entry(gpu, &mut self.memory, page, entry)
     }
 
     fn read_dword(&self, offset: u32) -> u32
@@ -380,7 +379,7 @@ impl Vgpu {
         ensures guest { SameGuest self.old self.new }
         ensures changes { ChangesOnly (entries_part (ranges_of self.old)) 0 (G.state gpu.old) (G.state gpu.new) }
     {
-        self.table.clear(gpu, &self.memory.frames);
+        self.table.clear(gpu, &mut self.memory);
         self.registers.reset();
         self.interrupts.reset();
     }

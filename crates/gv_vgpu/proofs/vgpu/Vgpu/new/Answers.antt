@@ -1,4 +1,4 @@
-use Rattle.std.proofs.Common.{◌≡◌, sym, ap, ◌∙◌, subst, refl, rules}
+use Rattle.std.proofs.Common.{◌≡◌, sym, ap, ◌∙◌, subst, refl, false, replicate, rules}
 use Rattle.gv_vgpu.specs.Device.{new_device}
 use Rattle.gv_vgpu.specs.declared.vgpu.Vgpu.{Vgpu}
 use Rattle.gv_entry.specs.Ranges.{InParts}
@@ -6,8 +6,10 @@ use Rattle.gv_gpu.specs.Part.{frames_part, entries_part}
 use Rattle.gv_gpu.proofs.Guests.{apart-frames-entries}
 use Rattle.gv_gpu.proofs.Changes.{leaves-outside}
 use Rattle.gv_sggtt.specs.Mirror.{Mirrors}
-use Rattle.gv_sggtt.specs.Table.{Table}
+use Rattle.gv_sggtt.specs.Pins.{HasPins}
+use Rattle.gv_sggtt.specs.Table.{Table, zero_table}
 use Rattle.gv_sggtt.proofs.Kept.{mirrors-zero, absent-kept}
+use Rattle.gv_sggtt.proofs.OwnPins.{has-pins-zero}
 use Rattle.gv_vgpu.specs.Holds.{idle_device}
 use Rattle.gv_vgpu.proofs.Kept.{idle-outside, device-idle}
 use Rattle.gv_vgpu.proofs.vgpu.Vgpu.new.Goals as goal
@@ -28,6 +30,8 @@ returns-clause-holds g c =
         stands = made.stands;
         frames = made.frames ∙ sym (ap (λ (t : Table). t.frames) zero);
         mirrors = subst (λ (t : Table). Mirrors e t c.in_ok-memory.memory.frames) (sym zero) (mirrors-zero e ranges c.args.frames c.in_ok-memory.memory.frames absent);
+        pinned = subst (λ (t : Table). HasPins t c.in_ok-memory.memory.pins) (sym zero) (subst (HasPins (zero_table ranges c.args.frames)) (sym made.pins) (has-pins-zero ranges c.args.frames));
+        unguarded = ap (λ (t : Table). t.guarded) zero ∙ ap (λ n. replicate n false) (sym (ap (λ (t : Table). t.frames) zero));
         parts = subst InParts own c.requires.parts;
         number = c.new-3.ensures.guest ∙ sym made.guest;
         ranges = c.new-3.ensures.ranges ∙ own;

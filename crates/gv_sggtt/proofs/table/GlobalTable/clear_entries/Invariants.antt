@@ -2,22 +2,26 @@ use Rattle.std.proofs.Common.{◌≡◌}
 use Rattle.gv_gpu.specs.Change.{ChangesOnly}
 use Rattle.gv_gpu.specs.Part.{entries_part}
 use Rattle.gv_guest.specs.Placed.{KeepsMemory}
-use Rattle.gv_sggtt.specs.Table.{Table, IsTable}
 use Rattle.gv_sggtt.specs.Mirror.{Mirrors}
-use Rattle.gv_sggtt.proofs.table.GlobalTable.clear.Given as goal
+use Rattle.gv_sggtt.specs.Pins.{ChangesOwnPins}
+use Rattle.gv_sggtt.specs.Table.{Table, IsTable}
+use Rattle.gv_sggtt.proofs.table.GlobalTable.clear_entries.Given as goal
 
--- the table mirrors as far as it is
+-- the table mirrors as far as it is, and has its pins
 abbrev pub invariant-loop-place : goal.invariant-loop-place
 invariant-loop-place g l =
     let now = g.G.Gpu.state l.gpu in
     let start = g.G.Gpu.state l.fn.gpu in
-    let table : Table = record { ranges = l.self-inside.ranges; frames = l.self-inside.frames; entries = l.self-inside.entries.values } in
+    let inside = l.self-inside in
+    let table : Table = record { ranges = inside.ranges; frames = inside.entries.frames; entries = inside.entries.values; guarded = inside.guarded.items } in
     record {
-      ranges : l.self-inside.ranges ≡ l.fn.self.ranges;
-      frames : l.self-inside.frames ≡ l.fn.self.frames;
+      ranges : inside.ranges ≡ l.fn.self.ranges;
+      frames : inside.entries.frames ≡ l.fn.self.frames;
+      guarded : inside.guarded.items ≡ l.fn.self.guarded;
       is : IsTable table;
       memory : KeepsMemory l.memory start now;
       mirrors : Mirrors now table l.memory;
+      pins : ChangesOwnPins l.fn.self table l.fn.pins l.pins;
       changes : ChangesOnly (entries_part l.fn.self.ranges) 0 start now;
     }
 
