@@ -21,7 +21,7 @@ use Rattle.gv_irq.specs.Irq.{Interrupts, reset_irq}
 use Rattle.gv_private.specs.Device.{Engine, PrivateDevice, Working, reset_engine, quietly, fails, failed}
 use Rattle.gv_private.specs.Access.{value_read, value_written}
 use Rattle.gv_entry.specs.Entry.{global_frame}
-use Rattle.gv_entry.specs.Global.{entry_at, place_of}
+use Rattle.gv_entry.specs.Global.{entry_at, slot_of}
 use Rattle.gv_entry.specs.Grants.{unless}
 use Rattle.gv_entry.specs.Ranges.{owns_page}
 use Rattle.gv_entry.specs.Tables.{is_guarded}
@@ -483,7 +483,7 @@ no_page false = refl
 
 no_grant : (page : ℕ) → page_grant two_frames page ≡ None
 no_grant page =
-    ap (λ entry. cond (owns_page two_frames.ranges page) (unless (is_guarded two_frames.memory two_frames.roots) (global_frame entry 2)) None) (no_entry (place_of two_frames.ranges page))
+    ap (λ entry. cond (owns_page two_frames.ranges page) (unless (is_guarded two_frames.memory two_frames.roots) (global_frame entry 2)) None) (no_entry (slot_of two_frames.ranges page))
     ∙ no_page (owns_page two_frames.ranges page)
 
 nobody_reaches_it : IsUngranted two_frames (record (at_work none) { root = 0 }) 1

@@ -1,7 +1,7 @@
 -- A table mirrors where its part of the device is the same, and at first.
 use Rattle.std.proofs.Common.{◌≡◌, ℕ, ◌%◌, true, false, cond, [], None, sym, ap, ◌∙◌, subst}
 use Rattle.gv_types.specs.declared.ranges.Ranges.{Ranges}
-use Rattle.gv_entry.specs.Global.{place_of, pages_of}
+use Rattle.gv_entry.specs.Global.{slot_of, pages_of}
 use Rattle.gv_entry.specs.Ranges.{owns_page}
 use Rattle.gv_gpu.specs.Device.{Device, IsEmpty}
 use Rattle.gv_gpu.specs.Change.{Leaves}
@@ -10,7 +10,7 @@ use Rattle.gv_gpu.proofs.Seen.{global-same}
 use Rattle.gv_guest.specs.Placed.{Placed}
 use Rattle.gv_sggtt.specs.Table.{Table, table_grant, entry_grant, zero_table}
 use Rattle.gv_sggtt.specs.Mirror.{NamesFrame, AreAbsent, Mirrors}
-use Rattle.gv_sggtt.proofs.Places.{entry-zero}
+use Rattle.gv_sggtt.proofs.Slots.{entry-zero}
 use Rattle.gv_sggtt.proofs.Written.{grant-owned}
 
 module _ (w : Part) (d e : Device) (ranges : Ranges) (own : (page : ℕ) → owns_page ranges page ≡ true → w.entry page ≡ true) (left : Leaves w d e) where
@@ -29,7 +29,7 @@ mirrors-zero d ranges frames placed absent = record {
 }
   where
     nothing : (page : ℕ) → owns_page ranges page ≡ true → table_grant (zero_table ranges frames) page ≡ None
-    nothing page own = grant-owned (zero_table ranges frames) page own ∙ ap (entry_grant (zero_table ranges frames)) (entry-zero (pages_of ranges) (place_of ranges page))
+    nothing page own = grant-owned (zero_table ranges frames) page own ∙ ap (entry_grant (zero_table ranges frames)) (entry-zero (pages_of ranges) (slot_of ranges page))
 
 -- What has no entry of the ranges was changed alone, over an empty device: their entries are absent.
 pub absent-empty : (p : Part) (d e : Device) (ranges : Ranges) → IsEmpty d → ((page : ℕ) → p.entry page ≡ false) → outside p e ≡ outside p d → AreAbsent e ranges

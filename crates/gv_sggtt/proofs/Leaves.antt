@@ -6,20 +6,20 @@ use Rattle.std.proofs.lemmas.Grind.{common_steps}
 use Rattle.std.proofs.lemmas.List.Elements.{All-nil, All-cons, All-weaker}
 use Rattle.std.proofs.lemmas.List.Sums.{sum_by-cons}
 use Rattle.gv_rmap.specs.declared.leaf.Leaf.{Leaf}
-use Rattle.gv_rmap.specs.Leaves.{place, leaf_at, with_leaf, without_leaf}
+use Rattle.gv_rmap.specs.Leaves.{key, leaf_at, with_leaf, without_leaf}
 use Rattle.gv_sggtt.specs.Linked.{leaf_of, leaves_from}
 
--- a place has a leaf of its own, and they stand in the order of the places
-before : (a b : ℕ) → a < b → place (leaf_of a) < place (leaf_of b)
+-- a slot has a leaf of its own, and they stand in the order of the slots
+before : (a b : ℕ) → a < b → key (leaf_of a) < key (leaf_of b)
 before a b h = omega arith
 
-behind_tests : (a b : ℕ) → a < b → (nat_lt (place (leaf_of a)) (place (leaf_of b)) ≡ true) × (eqb (place (leaf_of b)) (place (leaf_of a)) ≡ false)
+behind_tests : (a b : ℕ) → a < b → (nat_lt (key (leaf_of a)) (key (leaf_of b)) ≡ true) × (eqb (key (leaf_of b)) (key (leaf_of a)) ≡ false)
 behind_tests a b h = let o = before a b h in (grind (arith, nat_tests), grind (arith, nat_tests))
 
-front_tests : (a b : ℕ) → a < b → (nat_lt (place (leaf_of b)) (place (leaf_of a)) ≡ false) × (eqb (place (leaf_of a)) (place (leaf_of b)) ≡ false)
+front_tests : (a b : ℕ) → a < b → (nat_lt (key (leaf_of b)) (key (leaf_of a)) ≡ false) × (eqb (key (leaf_of a)) (key (leaf_of b)) ≡ false)
 front_tests a b h = let o = before a b h in (grind (arith, nat_tests), grind (arith, nat_tests))
 
-same_test : (a : ℕ) → eqb (place (leaf_of a)) (place (leaf_of a)) ≡ true
+same_test : (a : ℕ) → eqb (key (leaf_of a)) (key (leaf_of a)) ≡ true
 same_test a = grind (arith, nat_tests)
 
 choose : {A : Type 0} (P : A → Type 0) (b : Bool) (x y : A) → P x → P y → P (cond b x y)
@@ -36,12 +36,12 @@ further k i = omega arith
 here : (k : ℕ) → k + 0 ≡ k
 here k = omega arith
 
--- the place of a leaf
-pub place-back : (i : ℕ) → i / 512 * 512 + i % 512 ≡ i
-place-back i = omega arith
+-- the slot of a leaf
+pub slot-back : (i : ℕ) → i / 512 * 512 + i % 512 ≡ i
+slot-back i = omega arith
 
 pub leaf-once : (i j : ℕ) → leaf_of i ≡ leaf_of j → i ≡ j
-leaf-once i j same = sym (place-back i) ∙ ap (λ (leaf : Leaf). leaf.page * 512 + leaf.index) same ∙ place-back j
+leaf-once i j same = sym (slot-back i) ∙ ap (λ (leaf : Leaf). leaf.page * 512 + leaf.index) same ∙ slot-back j
 
 module _ (test : ℕ → Bool) where
   -- a leaf that stands before all of a chain
@@ -57,11 +57,11 @@ module _ (test : ℕ → Bool) where
       let rest = without-first a (k + 1) entries (omega arith) in
       choose (λ l. without_leaf (leaf_of a) l ≡ l) (test entry) (leaf_of k ∷ leaves_from (k + 1) test entries) (leaves_from (k + 1) test entries) (rw ((behind_tests a k h).1) (ap (λ l. leaf_of k ∷ l) rest)) rest
 
-  none-first : (a k : ℕ) (entries : List ℕ) → a < k → leaf_at (leaves_from k test entries) (place (leaf_of a)) ≡ None
+  none-first : (a k : ℕ) (entries : List ℕ) → a < k → leaf_at (leaves_from k test entries) (key (leaf_of a)) ≡ None
   none-first a k [] h = refl
   none-first a k (entry ∷ entries) h =
       let rest = none-first a (k + 1) entries (omega arith) in
-      choose (λ l. leaf_at l (place (leaf_of a)) ≡ None) (test entry) (leaf_of k ∷ leaves_from (k + 1) test entries) (leaves_from (k + 1) test entries) (rw ((behind_tests a k h).1) rest) rest
+      choose (λ l. leaf_at l (key (leaf_of a)) ≡ None) (test entry) (leaf_of k ∷ leaves_from (k + 1) test entries) (leaves_from (k + 1) test entries) (rw ((behind_tests a k h).1) rest) rest
 
   -- an entry that passes comes where none did
   with-set_from : (k i : ℕ) (entries : List ℕ) (value : ℕ) → i < length entries → test (get_or entries i 0) ≡ false → test value ≡ true → with_leaf (leaf_of (k + i)) (leaves_from k test entries) ≡ leaves_from k test (set entries i value)
@@ -89,22 +89,22 @@ module _ (test : ℕ → Bool) where
   same-set k zero (entry ∷ entries) value same = ap (λ b. cond b (leaf_of k ∷ leaves_from (k + 1) test entries) (leaves_from (k + 1) test entries)) same
   same-set k (suc i) (entry ∷ entries) value same = ap (λ l. cond (test entry) (leaf_of k ∷ l) l) (same-set (k + 1) i entries value same)
 
-  -- whether the chain has a place
-  none-at_from : (k i : ℕ) (entries : List ℕ) → test (get_or entries i 0) ≡ false → leaf_at (leaves_from k test entries) (place (leaf_of (k + i))) ≡ None
+  -- whether the chain has a slot
+  none-at_from : (k i : ℕ) (entries : List ℕ) → test (get_or entries i 0) ≡ false → leaf_at (leaves_from k test entries) (key (leaf_of (k + i))) ≡ None
   none-at_from k i [] fails = refl
   none-at_from k zero (entry ∷ entries) fails = rw (here k, fails) (none-first k (k + 1) entries (omega arith))
   none-at_from k (suc i) (entry ∷ entries) fails =
       let rest = none-at_from (k + 1) i entries fails in
       let tests = front_tests k (k + 1 + i) (omega arith) in
-      rw further (choose (λ l. leaf_at l (place (leaf_of (k + 1 + i))) ≡ None) (test entry) (leaf_of k ∷ leaves_from (k + 1) test entries) (leaves_from (k + 1) test entries) (rw (tests.1) rest) rest)
+      rw further (choose (λ l. leaf_at l (key (leaf_of (k + 1 + i))) ≡ None) (test entry) (leaf_of k ∷ leaves_from (k + 1) test entries) (leaves_from (k + 1) test entries) (rw (tests.1) rest) rest)
 
-  some-at_from : (k i : ℕ) (entries : List ℕ) → i < length entries → test (get_or entries i 0) ≡ true → IsSome (leaf_at (leaves_from k test entries) (place (leaf_of (k + i))))
+  some-at_from : (k i : ℕ) (entries : List ℕ) → i < length entries → test (get_or entries i 0) ≡ true → IsSome (leaf_at (leaves_from k test entries) (key (leaf_of (k + i))))
   some-at_from k i [] h passes = absurd (omega arith)
   some-at_from k zero (entry ∷ entries) h passes = rw (here k, passes, same_test k) refl
   some-at_from k (suc i) (entry ∷ entries) h passes =
       let rest = some-at_from (k + 1) i entries (omega arith) passes in
       let tests = front_tests k (k + 1 + i) (omega arith) in
-      rw further (choose (λ l. IsSome (leaf_at l (place (leaf_of (k + 1 + i))))) (test entry) (leaf_of k ∷ leaves_from (k + 1) test entries) (leaves_from (k + 1) test entries) (rw (tests.1) rest) rest)
+      rw further (choose (λ l. IsSome (leaf_at l (key (leaf_of (k + 1 + i))))) (test entry) (leaf_of k ∷ leaves_from (k + 1) test entries) (leaves_from (k + 1) test entries) (rw (tests.1) rest) rest)
 
   pub length-leaves : (k : ℕ) (entries : List ℕ) → length (leaves_from k test entries) ≡ count_by test entries
   length-leaves k [] = refl
@@ -119,10 +119,10 @@ module _ (test : ℕ → Bool) where
   pub without-set : (i : ℕ) (entries : List ℕ) (value : ℕ) → test value ≡ false → without_leaf (leaf_of i) (leaves_from 0 test entries) ≡ leaves_from 0 test (set entries i value)
   without-set i entries value fails = rw zero-add at (without-set_from 0 i entries value fails)
 
-  pub none-at : (i : ℕ) (entries : List ℕ) → test (get_or entries i 0) ≡ false → leaf_at (leaves_from 0 test entries) (place (leaf_of i)) ≡ None
+  pub none-at : (i : ℕ) (entries : List ℕ) → test (get_or entries i 0) ≡ false → leaf_at (leaves_from 0 test entries) (key (leaf_of i)) ≡ None
   none-at i entries fails = rw zero-add at (none-at_from 0 i entries fails)
 
-  pub some-at : (i : ℕ) (entries : List ℕ) → i < length entries → test (get_or entries i 0) ≡ true → IsSome (leaf_at (leaves_from 0 test entries) (place (leaf_of i)))
+  pub some-at : (i : ℕ) (entries : List ℕ) → i < length entries → test (get_or entries i 0) ≡ true → IsSome (leaf_at (leaves_from 0 test entries) (key (leaf_of i)))
   some-at i entries h passes = rw zero-add at (some-at_from 0 i entries h passes)
 
   contains_from : (k i : ℕ) (entries : List ℕ) → i < length entries → test (get_or entries i 0) ≡ true → Contains (leaves_from k test entries) (leaf_of (k + i))

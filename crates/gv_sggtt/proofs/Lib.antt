@@ -2,8 +2,8 @@ pub mod Guarded
 pub mod Kept
 pub mod Leaves
 pub mod OwnPins
-pub mod Places
+pub mod Slots
 pub mod Relinked
 pub mod Setting
 pub mod Written
-pub mod WrittenPlaces
+pub mod WrittenSlots

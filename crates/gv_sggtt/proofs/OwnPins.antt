@@ -40,15 +40,15 @@ own-changes-then s t u a b c first second = record {
 
 -- ---- an entry is set
 
-module _ (t : Table) (place value : ℕ) (there : place < length t.entries) where
+module _ (t : Table) (slot value : ℕ) (there : slot < length t.entries) where
   abbrev written : Table
-  written = record t { entries = set t.entries place value }
+  written = record t { entries = set t.entries slot value }
 
   abbrev old : Option ℕ
-  old = entry_grant t (get_or t.entries place 0)
+  old = entry_grant t (get_or t.entries slot 0)
 
   counted : (k : ℕ) → table_pins written k + cond (is_frame k old) 1 0 ≡ table_pins t k + cond (is_frame k (entry_grant t value)) 1 0
-  counted k = sum_by-set (λ entry. cond (is_frame k (entry_grant t entry)) 1 0) t.entries place value 0 there
+  counted k = sum_by-set (λ entry. cond (is_frame k (entry_grant t entry)) 1 0) t.entries slot value 0 there
 
   pub changes-written : (before between after : List ℕ) → length between ≡ length before → length after ≡ length between → ((k : ℕ) → get_or between k 0 + cond (is_frame k old) 1 0 ≡ get_or before k 0) → ((k : ℕ) → get_or after k 0 ≡ get_or between k 0 + cond (is_frame k (entry_grant t value)) 1 0) → ChangesOwnPins t written before after
   changes-written before between after first second less more = record {
@@ -60,7 +60,7 @@ module _ (t : Table) (place value : ℕ) (there : place < length t.entries) wher
   pub one-own : (frame : ℕ) → old ≡ Some frame → 1 ≤ table_pins t frame
   one-own frame is =
       let one : ◌≡◌ {A = ℕ} (cond (is_frame frame old) 1 0) 1 = ap (λ o. cond (is_frame frame o) 1 0) is ∙ ap (λ b. cond b 1 0) (eq-eqb frame frame refl) in
-      let least : cond (is_frame frame old) 1 0 ≤ table_pins t frame = get_or-le-sum_by (λ entry. cond (is_frame frame (entry_grant t entry)) 1 0) t.entries place 0 there in
+      let least : cond (is_frame frame old) 1 0 ≤ table_pins t frame = get_or-le-sum_by (λ entry. cond (is_frame frame (entry_grant t entry)) 1 0) t.entries slot 0 there in
       omega arith
 
 pub most-own : (t : Table) (frame : ℕ) → table_pins t frame ≤ length t.entries

@@ -3,13 +3,13 @@ use Rattle.std.proofs.Common.{◌≡◌, ◌≢◌, ℕ, ◌<◌, true, Option, 
 use Rattle.std.proofs.lemmas.Bool.{cases_eq}
 use Rattle.std.proofs.lemmas.Grind.{common_steps}
 use Rattle.gv_types.specs.Maps.{put}
-use Rattle.gv_entry.specs.Global.{place_of, pages_of, entry_at, with_entry_at}
+use Rattle.gv_entry.specs.Global.{slot_of, pages_of, entry_at, with_entry_at}
 use Rattle.gv_entry.specs.Ranges.{owns_page}
 use Rattle.gv_gpu.specs.Device.{Device, with_global}
 use Rattle.gv_guest.specs.Placed.{Placed, Stands}
 use Rattle.gv_sggtt.specs.Table.{Table, IsTable, table_entry, table_written, table_grant, entry_grant}
 use Rattle.gv_sggtt.specs.Mirror.{NamesFrame, Mirrors}
-use Rattle.gv_sggtt.proofs.Places.{place-once, entry-set, entry-other}
+use Rattle.gv_sggtt.proofs.Slots.{slot-once, entry-set, entry-other}
 
 -- a memory that has frames has a live page
 pub some-live : (d : Device) (placed : Placed) → Stands d placed → 0 < length placed.pages → (page : ℕ) × IsSome (d.label page)
@@ -19,7 +19,7 @@ some-live d placed stands some = (get_or placed.pages 0 0, subst IsSome (sym (st
 pub grant-owned : (t : Table) (page : ℕ) → owns_page t.ranges page ≡ true → table_grant t page ≡ entry_grant t (table_entry t page)
 grant-owned t page own = ap (λ b. cond b (entry_grant t (table_entry t page)) None) own
 
-module _ (d : Device) (t : Table) (placed : Placed) (page place value entry : ℕ) (is : IsTable t) (at : place_of t.ranges page ≡ Some place) (within : place < pages_of t.ranges) (names : NamesFrame placed (entry_grant t value) entry) where
+module _ (d : Device) (t : Table) (placed : Placed) (page slot value entry : ℕ) (is : IsTable t) (at : slot_of t.ranges page ≡ Some slot) (within : slot < pages_of t.ranges) (names : NamesFrame placed (entry_grant t value) entry) where
   abbrev after : Device
   after = with_global d page entry
 
@@ -28,11 +28,11 @@ module _ (d : Device) (t : Table) (placed : Placed) (page place value entry : �
 
   new_entry : table_entry written page ≡ value
   new_entry =
-      let there : place < length t.entries = let whole = is.whole in omega arith in
-      ap (λ o. entry_at (with_entry_at t.entries o value) o) at ∙ entry-set t.entries place value there
+      let there : slot < length t.entries = let whole = is.whole in omega arith in
+      ap (λ o. entry_at (with_entry_at t.entries o value) o) at ∙ entry-set t.entries slot value there
 
   old_entry : (q : ℕ) → q ≢ page → table_entry written q ≡ table_entry t q
-  old_entry q differ = ap (λ o. entry_at (with_entry_at t.entries o value) (place_of t.ranges q)) at ∙ entry-other t.entries place value (place_of t.ranges q) (λ same. differ (place-once t.ranges q page place is.parts same at))
+  old_entry q differ = ap (λ o. entry_at (with_entry_at t.entries o value) (slot_of t.ranges q)) at ∙ entry-other t.entries slot value (slot_of t.ranges q) (λ same. differ (slot-once t.ranges q page slot is.parts same at))
 
   here : (q : ℕ) → put d.global page entry page ≡ entry
   here q = grind (arith, common_steps)

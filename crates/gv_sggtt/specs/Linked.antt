@@ -6,7 +6,7 @@ use Rattle.gv_rmap.specs.Chains.{ReverseMap, chain_of, unlinked, linked}
 
 pub record Linked : Type 0 where
   pub values : List ℕ
-  pub left : ℕ  -- how many places were written
+  pub left : ℕ  -- how many slots were written
   pub frames : ℕ
 
 abbrev pub is_frame : ℕ → Option ℕ → Bool
@@ -17,14 +17,14 @@ is_frame frame (Some other) = other == frame
 abbrev pub names : ℕ → ℕ → ℕ → Bool
 names frames frame entry = is_frame frame (global_frame entry frames)
 
--- The entries count as the words of pages of 512, by their places.
+-- The entries count as the words of pages of 512, by their slots.
 abbrev pub leaf_of : ℕ → Leaf
-leaf_of place = record { page = place / 512; index = place % 512; writable = true }
+leaf_of slot = record { page = slot / 512; index = slot % 512; writable = true }
 
--- those that pass a test, of entries whose places begin there
+-- those that pass a test, of entries whose slots begin there
 abbrev pub leaves_from : ℕ → (ℕ → Bool) → List ℕ → List Leaf
-leaves_from place test [] = []
-leaves_from place test (entry ∷ entries) = if test entry then leaf_of place ∷ leaves_from (place + 1) test entries else leaves_from (place + 1) test entries
+leaves_from slot test [] = []
+leaves_from slot test (entry ∷ entries) = if test entry then leaf_of slot ∷ leaves_from (slot + 1) test entries else leaves_from (slot + 1) test entries
 
 -- Each frame's chain has the entries that name it, and there is room to link all the others.
 pub record AreLinked (frames : ℕ) (values : List ℕ) (chains : ReverseMap) : Type 0 where
@@ -34,9 +34,9 @@ pub record AreLinked (frames : ℕ) (values : List ℕ) (chains : ReverseMap) : 
 
 -- the chains where an entry no longer names this frame, and where it does
 abbrev pub chains_without : ReverseMap → Option ℕ → ℕ → ReverseMap
-chains_without chains None place = chains
-chains_without chains (Some frame) place = unlinked chains frame (leaf_of place)
+chains_without chains None slot = chains
+chains_without chains (Some frame) slot = unlinked chains frame (leaf_of slot)
 
 abbrev pub chains_with : ReverseMap → Option ℕ → ℕ → ReverseMap
-chains_with chains None place = chains
-chains_with chains (Some frame) place = linked chains frame (leaf_of place)
+chains_with chains None slot = chains
+chains_with chains (Some frame) slot = linked chains frame (leaf_of slot)

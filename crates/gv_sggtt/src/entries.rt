@@ -4,15 +4,15 @@ use gv_types::OutOfMemory;
 use std::alloc::Global;
 use std::marker::Model;
 
-/// Entries by their places, of which those that were written since all were 0 are known. So setting all
+/// Entries by their slots, of which those that were written since all were 0 are known. So setting all
 /// to 0 again costs what was written, and not what there is. A clause sees the values, and how many
-/// places are to be set to 0.
+/// slots are to be set to 0.
 #[derive(Drop)]
 pub(crate) struct Entries {
     values: Vec<u64>,
-    // the places that were written, each once, with room for all
+    // the slots that were written, each once, with room for all
     written: Vec<usize>,
-    // whether a place is among them
+    // whether a slot is among them
     is_written: Vec<bool>,
 }
 
@@ -43,26 +43,26 @@ impl Entries {
         })
     }
 
-    pub(crate) fn get(&self, place: usize) -> u64
-        requires { place < length self.now.values }
-        ensures { result ≡ slice_index self.now.values place }
+    pub(crate) fn get(&self, slot: usize) -> u64
+        requires { slot < length self.now.values }
+        ensures { result ≡ slice_index self.now.values slot }
     {
-        self.values[place]
+        self.values[slot]
     }
 
-    pub(crate) fn set(&mut self, place: usize, value: u64)
-        requires { place < length self.old.values }
-        ensures { self.new.values ≡ slice_set self.old.values place value }
+    pub(crate) fn set(&mut self, slot: usize, value: u64)
+        requires { slot < length self.old.values }
+        ensures { self.new.values ≡ slice_set self.old.values slot value }
     {
-        self.values[place] = value;
-        if self.is_written[place] {
+        self.values[slot] = value;
+        if self.is_written[slot] {
             return;
         }
-        self.is_written[place] = true;
-        self.written.push(place).unwrap();
+        self.is_written[slot] = true;
+        self.written.push(slot).unwrap();
     }
 
-    /// Sets the entry of one of the written places to 0, and answers the place and what its entry was; none,
+    /// Sets the entry of one of the written slots to 0, and answers the slot and what its entry was; none,
     /// where every entry is 0 and none is left.
     pub(crate) fn take_written(&mut self) -> Option<(usize, u64)>
         ensures there { MatchOption result (self.new ≡ self.old) (λ taken. taken.0 < length self.old.values) }
@@ -70,10 +70,10 @@ impl Entries {
         ensures values { MatchOption result (self.old.values ≡ replicate (length self.old.values) 0) (λ taken. self.new.values ≡ slice_set self.old.values taken.0 0) }
         ensures left { MatchOption result (self.old.left ≡ 0) (λ _. self.new.left + 1 ≡ self.old.left) }
     {
-        let place = self.written.pop()?;
-        let entry = self.values[place];
-        self.is_written[place] = false;
-        self.values[place] = 0;
-        Some((place, entry))
+        let slot = self.written.pop()?;
+        let entry = self.values[slot];
+        self.is_written[slot] = false;
+        self.values[slot] = 0;
+        Some((slot, entry))
     }
 }

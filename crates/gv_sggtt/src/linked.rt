@@ -1,6 +1,6 @@
 ghost use Rattle.std.specs.Prelude.{◌≡◌, ◌+◌, ◌*◌, ◌^◌, ◌<◌, ◌≤◌, length, IfOk, IfSome, IsSome, None, MatchOption, replicate, slice_index, slice_set};
 ghost use Rattle.gv_entry.specs.Entry.{global_frame};
-ghost use Rattle.gv_rmap.specs.Leaves.{leaf_at, place as place_in_chain};
+ghost use Rattle.gv_rmap.specs.Leaves.{leaf_at, key};
 ghost use Rattle.gv_rmap.specs.Chains.{chain_of};
 ghost use Rattle.gv_sggtt.specs.Linked.{leaf_of, leaves_from, names, chains_with, chains_without};
 
@@ -11,8 +11,8 @@ use gv_types::OutOfMemory;
 use std::alloc::Global;
 use std::marker::Model;
 
-/// Entries by their places, and for each frame the places of the entries that name it. A clause sees the
-/// values, how many places are to be set to 0, and how many frames there are.
+/// Entries by their slots, and for each frame the slots of the entries that name it. A clause sees the
+/// values, how many slots are to be set to 0, and how many frames there are.
 #[derive(Drop)]
 pub(crate) struct LinkedEntries {
     entries: Entries,
@@ -34,43 +34,43 @@ impl Model for LinkedEntries {
     ghost invariant = { λ s. AreLinked s.frames s.entries.values s.chains };
 }
 
-// The entries count as the words of pages of 512, by their places.
-fn leaf_of(place: usize) -> Leaf
-    ensures { result ≡ leaf_of place }
+// The entries count as the words of pages of 512, by their slots.
+fn leaf_of(slot: usize) -> Leaf
+    ensures { result ≡ leaf_of slot }
 {
     Leaf {
-        page: (place / 512) as u64,
-        index: (place % 512) as u16,
+        page: (slot / 512) as u64,
+        index: (slot % 512) as u16,
         writable: true,
     }
 }
 
-/// Which place that is.
-pub(crate) fn place_of_leaf(leaf: Leaf) -> usize
+/// Which slot that is.
+pub(crate) fn slot_of_leaf(leaf: Leaf) -> usize
     requires { leaf.page < 2 ^ 32 }
     ensures { result ≡ leaf.page * 512 + leaf.index }
 {
     leaf.page as usize * 512 + leaf.index as usize
 }
 
-fn unlink(chains: &mut Chains, frame: Option<u32>, place: usize)
+fn unlink(chains: &mut Chains, frame: Option<u32>, slot: usize)
     requires there { IfSome frame (λ frame. frame < length chains.old.chains) }
-    requires linked { IfSome frame (λ frame. IsSome (leaf_at (chain_of chains.old frame) (place_in_chain (leaf_of place)))) }
-    ensures { chains.new ≡ chains_without chains.old frame place }
+    requires linked { IfSome frame (λ frame. IsSome (leaf_at (chain_of chains.old frame) (key (leaf_of slot)))) }
+    ensures { chains.new ≡ chains_without chains.old frame slot }
 {
     if let Some(frame) = frame {
-        chains.unlink(frame, leaf_of(place));
+        chains.unlink(frame, leaf_of(slot));
     }
 }
 
-fn link(chains: &mut Chains, frame: Option<u32>, place: usize)
+fn link(chains: &mut Chains, frame: Option<u32>, slot: usize)
     requires there { IfSome frame (λ frame. frame < length chains.old.chains) }
-    requires absent { IfSome frame (λ frame. leaf_at (chain_of chains.old frame) (place_in_chain (leaf_of place)) ≡ None) }
+    requires absent { IfSome frame (λ frame. leaf_at (chain_of chains.old frame) (key (leaf_of slot)) ≡ None) }
     requires room { IfSome frame (λ _. 1 ≤ chains.old.spare) }
-    ensures { chains.new ≡ chains_with chains.old frame place }
+    ensures { chains.new ≡ chains_with chains.old frame slot }
 {
     if let Some(frame) = frame {
-        chains.link(frame, leaf_of(place));
+        chains.link(frame, leaf_of(slot));
     }
 }
 
@@ -94,53 +94,53 @@ impl LinkedEntries {
         self.frames
     }
 
-    pub(crate) fn get(&self, place: usize) -> u64
-        requires { place < length self.now.values }
-        ensures { result ≡ slice_index self.now.values place }
+    pub(crate) fn get(&self, slot: usize) -> u64
+        requires { slot < length self.now.values }
+        ensures { result ≡ slice_index self.now.values slot }
     {
-        self.entries.get(place)
+        self.entries.get(slot)
     }
 
     /// The frame that an entry names, if any.
-    pub(crate) fn frame(&self, place: usize) -> Option<u32>
-        requires { place < length self.now.values }
-        ensures { result ≡ global_frame (slice_index self.now.values place) self.now.frames }
+    pub(crate) fn frame(&self, slot: usize) -> Option<u32>
+        requires { slot < length self.now.values }
+        ensures { result ≡ global_frame (slice_index self.now.values slot) self.now.frames }
     {
-        global_of(self.entries.get(place), self.frames)
+        global_of(self.entries.get(slot), self.frames)
     }
 
     // Sets an entry to 0.
-    fn reset(&mut self, place: usize)
-        requires { place < length self.old.values }
-        ensures values { self.new.values ≡ slice_set self.old.values place 0 }
+    fn reset(&mut self, slot: usize)
+        requires { slot < length self.old.values }
+        ensures values { self.new.values ≡ slice_set self.old.values slot 0 }
         ensures frames { self.new.frames ≡ self.old.frames }
     {
-        let frame = global_of(self.entries.get(place), self.frames);
-        unlink(&mut self.chains, frame, place);
-        self.entries.set(place, 0);
+        let frame = global_of(self.entries.get(slot), self.frames);
+        unlink(&mut self.chains, frame, slot);
+        self.entries.set(slot, 0);
     }
 
     // Sets an entry that named no frame.
-    fn fill(&mut self, place: usize, value: u64)
-        requires within { place < length self.old.values }
-        requires free { global_frame (slice_index self.old.values place) self.old.frames ≡ None }
-        ensures values { self.new.values ≡ slice_set self.old.values place value }
+    fn fill(&mut self, slot: usize, value: u64)
+        requires within { slot < length self.old.values }
+        requires free { global_frame (slice_index self.old.values slot) self.old.frames ≡ None }
+        ensures values { self.new.values ≡ slice_set self.old.values slot value }
         ensures frames { self.new.frames ≡ self.old.frames }
     {
-        link(&mut self.chains, global_of(value, self.frames), place);
-        self.entries.set(place, value);
+        link(&mut self.chains, global_of(value, self.frames), slot);
+        self.entries.set(slot, value);
     }
 
-    pub(crate) fn set(&mut self, place: usize, value: u64)
-        requires { place < length self.old.values }
-        ensures values { self.new.values ≡ slice_set self.old.values place value }
+    pub(crate) fn set(&mut self, slot: usize, value: u64)
+        requires { slot < length self.old.values }
+        ensures values { self.new.values ≡ slice_set self.old.values slot value }
         ensures frames { self.new.frames ≡ self.old.frames }
     {
-        self.reset(place);
-        self.fill(place, value);
+        self.reset(slot);
+        self.fill(slot, value);
     }
 
-    /// Sets the entry of one of the written places to 0, and answers the place and what its entry was; none,
+    /// Sets the entry of one of the written slots to 0, and answers the slot and what its entry was; none,
     /// where every entry is 0 and none is left.
     pub(crate) fn take_written(&mut self) -> Option<(usize, u64)>
         ensures there { MatchOption result (self.new ≡ self.old) (λ taken. taken.0 < length self.old.values) }
@@ -149,12 +149,12 @@ impl LinkedEntries {
         ensures left { MatchOption result (self.old.left ≡ 0) (λ _. self.new.left + 1 ≡ self.old.left) }
         ensures frames { self.new.frames ≡ self.old.frames }
     {
-        let (place, entry) = self.entries.take_written()?;
-        unlink(&mut self.chains, global_of(entry, self.frames), place);
-        Some((place, entry))
+        let (slot, entry) = self.entries.take_written()?;
+        unlink(&mut self.chains, global_of(entry, self.frames), slot);
+        Some((slot, entry))
     }
 
-    /// The places whose entries name a frame, each once.
+    /// The slots whose entries name a frame, each once.
     pub(crate) fn naming(&self, frame: u32) -> Walk<'_>
         requires { frame < self.now.frames }
         ensures { result ≡ leaves_from 0 (names self.now.frames frame) self.now.values }

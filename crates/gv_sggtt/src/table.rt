@@ -1,6 +1,6 @@
 ghost use Rattle.std.specs.Prelude.{◌≡◌, ℕ, ◌+◌, ◌-◌, ◌*◌, ◌^◌, ◌<◌, ◌≤◌, length, count_by, if◌then◌else◌, IfOk, IfSome, IsSome, None, slice_index, slice_set, true, false};
 ghost use Rattle.std.specs.Option.{option_map_or};
-ghost use Rattle.gv_entry.specs.Global.{pages_of, place_of};
+ghost use Rattle.gv_entry.specs.Global.{pages_of, slot_of};
 ghost use Rattle.gv_entry.specs.Grants.{unless};
 ghost use Rattle.gv_entry.specs.Ranges.{InParts, is_in, owns_page};
 ghost use Rattle.gv_gpu.specs.Change.{ChangesOnly};
@@ -11,7 +11,7 @@ ghost use Rattle.gv_sggtt.specs.Mirror.{Mirrors, NamesFrame, SetsEntries};
 ghost use Rattle.gv_sggtt.specs.Pins.{HasPins, ChangesOwnPins};
 ghost use Rattle.gv_sggtt.specs.Table.{zero_table, table_entry, table_written, table_grant, table_guarding, guards};
 
-use crate::linked::{LinkedEntries, place_of_leaf};
+use crate::linked::{LinkedEntries, slot_of_leaf};
 use gv_entry::global_of;
 use gv_gpu::Gpu;
 use gv_guest::{Frames, Memory, Pins};
@@ -57,10 +57,10 @@ fn is_in(span: &Span, page: u32) -> bool
 }
 
 // Where the entry of a page stands among a guest's.
-fn place_of(ranges: &Ranges, page: u32) -> Option<usize>
+fn slot_of(ranges: &Ranges, page: u32) -> Option<usize>
     requires { InParts ranges.now }
-    ensures place { result ≡ place_of ranges.now page }
-    ensures within { IfSome result (λ place. place < pages_of ranges.now) }
+    ensures slot { result ≡ slot_of ranges.now page }
+    ensures within { IfSome result (λ slot. slot < pages_of ranges.now) }
     ensures owned { IfSome result (λ _. owns_page ranges.now page ≡ true) }
     ensures below { IfSome result (λ _. page < 0xFC000) }
 {
@@ -74,17 +74,17 @@ fn place_of(ranges: &Ranges, page: u32) -> Option<usize>
 }
 
 // The page whose entry stands there.
-fn page_at(ranges: &Ranges, place: usize) -> u32
+fn page_at(ranges: &Ranges, slot: usize) -> u32
     requires parts { InParts ranges.now }
-    requires within { place < pages_of ranges.now }
-    ensures place { place_of ranges.now result ≡ Some place }
+    requires within { slot < pages_of ranges.now }
+    ensures slot { slot_of ranges.now result ≡ Some slot }
     ensures owned { owns_page ranges.now result ≡ true }
 {
     let low = ranges.low.pages as usize;
-    if place < low {
-        ranges.low.first + place as u32
+    if slot < low {
+        ranges.low.first + slot as u32
     } else {
-        ranges.high.first + (place - low) as u32
+        ranges.high.first + (slot - low) as u32
     }
 }
 
@@ -178,7 +178,7 @@ fn set_entries<G: Gpu>(
 {
     let mut count = 0;
     for leaf in entries.naming(frame) {
-        gpu.set_global(page_at(ranges, place_of_leaf(leaf)), entry);
+        gpu.set_global(page_at(ranges, slot_of_leaf(leaf)), entry);
         count += 1;
     }
     count
@@ -206,8 +206,8 @@ impl GlobalTable {
     pub fn entry(&self, page: u32) -> u64
         ensures { result ≡ table_entry self.now page }
     {
-        match place_of(&self.ranges, page) {
-            Some(place) => self.entries.get(place),
+        match slot_of(&self.ranges, page) {
+            Some(slot) => self.entries.get(slot),
             None => 0,
         }
     }
@@ -218,8 +218,8 @@ impl GlobalTable {
         ensures grant { result ≡ table_grant self.now page }
         ensures there { IfSome result (λ frame. frame < self.now.frames) }
     {
-        let place = place_of(&self.ranges, page)?;
-        unguarded(&self.guarded, self.entries.frame(place))
+        let slot = slot_of(&self.ranges, page)?;
+        unguarded(&self.guarded, self.entries.frame(slot))
     }
 
     /// Sets the guest's entry of a page, and the physical one with it. Does nothing for a page that
@@ -237,15 +237,15 @@ impl GlobalTable {
         ensures memory { KeepsMemory memory.old.frames (G.state gpu.old) (G.state gpu.new) }
         ensures changes { ChangesOnly (entries_part self.old.ranges) 0 (G.state gpu.old) (G.state gpu.new) }
     {
-        let Some(place) = place_of(&self.ranges, page) else {
+        let Some(slot) = slot_of(&self.ranges, page) else {
             return;
         };
         unpin(
             &mut memory.pins,
-            unguarded(&self.guarded, self.entries.frame(place)),
+            unguarded(&self.guarded, self.entries.frame(slot)),
         );
-        self.entries.set(place, value);
-        let frame = unguarded(&self.guarded, self.entries.frame(place));
+        self.entries.set(slot, value);
+        let frame = unguarded(&self.guarded, self.entries.frame(slot));
         pin(&mut memory.pins, frame);
         gpu.set_global(page, physical(&memory.frames, frame));
     }
@@ -306,10 +306,10 @@ impl GlobalTable {
         ensures memory { KeepsMemory memory.now (G.state gpu.old) (G.state gpu.new) }
         ensures changes { ChangesOnly (entries_part self.old.ranges) 0 (G.state gpu.old) (G.state gpu.new) }
     {
-        while let Some((place, entry)) = self.entries.take_written() {
+        while let Some((slot, entry)) = self.entries.take_written() {
             let frame = global_of(entry, self.entries.frames());
             unpin(pins, unguarded(&self.guarded, frame));
-            gpu.set_global(page_at(&self.ranges, place), ABSENT);
+            gpu.set_global(page_at(&self.ranges, slot), ABSENT);
         }
     }
 

@@ -1,25 +1,25 @@
 use Rattle.std.proofs.Common.{◌≡◌, ℕ, ◌+◌, ◌*◌, ◌<◌, List, Option, Some, IsSome, length, sym, ap, ◌∙◌, subst, arith}
 use Rattle.gv_types.specs.declared.ids.Label.{Label}
-use Rattle.gv_entry.specs.Global.{place_of}
+use Rattle.gv_entry.specs.Global.{slot_of}
 use Rattle.gv_gpu.specs.Device.{Device}
 use Rattle.gv_rmap.specs.declared.leaf.Leaf.{Leaf}
-use Rattle.gv_sggtt.proofs.Places.{place-within}
-use Rattle.gv_sggtt.proofs.Setting.{Setting, setting-first, setting-next, setting-done, place-there}
+use Rattle.gv_sggtt.proofs.Slots.{slot-within}
+use Rattle.gv_sggtt.proofs.Setting.{Setting, setting-first, setting-next, setting-done, slot-there}
 use Rattle.gv_sggtt.proofs.table.set_entries.Goals as goal
 
 pub loop-leaf-init : goal.loop-leaf-init
 loop-leaf-init g c =
     let d = g.G.Gpu.state c.args.gpu.now in
     rw (c.into_iter-leaf-iterator.ensures.into_iter_gives, c.naming-leaf-items.ensures)
-    (setting-first c.args.ranges.now c.args.entries.now.values c.args.entries.now.frames c.args.frame c.args.entry d c.requires.whole (place-within c.args.ranges.now))
+    (setting-first c.args.ranges.now c.args.entries.now.values c.args.entries.now.frames c.args.frame c.args.entry d c.requires.whole (slot-within c.args.ranges.now))
 
-pub place_of_leaf-requires : goal.place_of_leaf-requires
-place_of_leaf-requires g c =
+pub slot_of_leaf-requires : goal.slot_of_leaf-requires
+slot_of_leaf-requires g c =
     let start = g.G.Gpu.state c.args.gpu.now in
     let now = g.G.Gpu.state c.loop-leaf.gpu in
     let values = c.args.entries.now.values in
     let left = subst (λ (left : List Leaf). Setting c.args.ranges.now values c.args.entries.now.frames c.args.frame c.args.entry start now left c.loop-leaf.count) c.in-Some.ensures.steps c.loop-leaf.invariant in
-    let there = place-there c.args.ranges.now values c.args.entries.now.frames c.args.frame c.args.entry start now c.in-Some.leaf c.next.new.self c.loop-leaf.count left in
+    let there = slot-there c.args.ranges.now values c.args.entries.now.frames c.args.frame c.args.entry start now c.in-Some.leaf c.next.new.self c.loop-leaf.count left in
     let parts = c.requires.parts in
     let whole = c.requires.whole in
     omega arith
@@ -30,8 +30,8 @@ page_at-requires-clause-within g c =
     let now = g.G.Gpu.state c.loop-leaf.gpu in
     let values = c.args.entries.now.values in
     let left = subst (λ (left : List Leaf). Setting c.args.ranges.now values c.args.entries.now.frames c.args.frame c.args.entry start now left c.loop-leaf.count) c.in-Some.ensures.steps c.loop-leaf.invariant in
-    let there = place-there c.args.ranges.now values c.args.entries.now.frames c.args.frame c.args.entry start now c.in-Some.leaf c.next.new.self c.loop-leaf.count left in
-    let is = c.place_of_leaf.ensures in
+    let there = slot-there c.args.ranges.now values c.args.entries.now.frames c.args.frame c.args.entry start now c.in-Some.leaf c.next.new.self c.loop-leaf.count left in
+    let is = c.slot_of_leaf.ensures in
     let whole = c.requires.whole in
     omega arith
 
@@ -47,7 +47,7 @@ loop-leaf-preserved g c =
     let values = c.args.entries.now.values in
     let frames = c.args.entries.now.frames in
     let left = subst (λ (left : List Leaf). Setting ranges values frames c.args.frame c.args.entry start now left c.loop-leaf.count) c.in-Some.ensures.steps c.loop-leaf.invariant in
-    let at = c.page_at.ensures.place ∙ ap (λ i. Some i) c.place_of_leaf.ensures in
+    let at = c.page_at.ensures.slot ∙ ap (λ i. Some i) c.slot_of_leaf.ensures in
     rw c.set_global.ensures
     (setting-next ranges values frames c.args.frame c.args.entry start now c.in-Some.leaf c.next.new.self c.loop-leaf.count left c.page_at.result c.requires.parts at c.page_at.ensures.owned)
 

@@ -7,13 +7,13 @@ use Rattle.gv_sggtt.proofs.linked.LinkedEntries.reset.Goals as goal
 pub unlink-requires-clause-linked : goal.unlink-requires-clause-linked
 unlink-requires-clause-linked c =
     let inside = c.self.inside in
-    let there = subst (λ (s : Linked). c.args.place < length s.values) (sym c.self.view_is) c.requires in
-    let named : global_frame (get_or inside.entries.values c.args.place 0) inside.frames ≡ c.global_of-frame.result = sym (c.global_of-frame.ensures ∙ ap (λ entry. global_frame entry inside.frames) c.get.ensures) in
-    all-linked inside.frames inside.entries.values inside.chains c.self.invariant c.args.place there c.global_of-frame.result named
+    let there = subst (λ (s : Linked). c.args.slot < length s.values) (sym c.self.view_is) c.requires in
+    let named : global_frame (get_or inside.entries.values c.args.slot 0) inside.frames ≡ c.global_of-frame.result = sym (c.global_of-frame.ensures ∙ ap (λ entry. global_frame entry inside.frames) c.get.ensures) in
+    all-linked inside.frames inside.entries.values inside.chains c.self.invariant c.args.slot there c.global_of-frame.result named
 
 pub invariant_of-self : goal.invariant_of-self
 invariant_of-self c =
     let inside = c.self.inside in
-    let there = subst (λ (s : Linked). c.args.place < length s.values) (sym c.self.view_is) c.requires in
-    let named : global_frame (get_or inside.entries.values c.args.place 0) inside.frames ≡ c.global_of-frame.result = sym (c.global_of-frame.ensures ∙ ap (λ entry. global_frame entry inside.frames) c.get.ensures) in
-    rw (c.set.ensures, c.unlink.ensures) (linked-without inside.frames inside.entries.values inside.chains c.self.invariant c.args.place there c.global_of-frame.result named)
+    let there = subst (λ (s : Linked). c.args.slot < length s.values) (sym c.self.view_is) c.requires in
+    let named : global_frame (get_or inside.entries.values c.args.slot 0) inside.frames ≡ c.global_of-frame.result = sym (c.global_of-frame.ensures ∙ ap (λ entry. global_frame entry inside.frames) c.get.ensures) in
+    rw (c.set.ensures, c.unlink.ensures) (linked-without inside.frames inside.entries.values inside.chains c.self.invariant c.args.slot there c.global_of-frame.result named)

@@ -6,13 +6,13 @@ use Rattle.gv_sggtt.proofs.linked.LinkedEntries.take_written.Goals as goal
 pub unlink-requires-clause-linked : goal.unlink-requires-clause-linked
 unlink-requires-clause-linked c =
     let inside = c.self.inside in
-    let place = c.in_ok-place.place in
-    let named : global_frame (get_or inside.entries.values place 0) inside.frames ≡ c.global_of.result = sym (c.global_of.ensures ∙ ap (λ entry. global_frame entry inside.frames) c.in_ok-place.ensures.entry) in
-    all-linked inside.frames inside.entries.values inside.chains c.self.invariant place c.in_ok-place.ensures.there c.global_of.result named
+    let slot = c.in_ok-slot.slot in
+    let named : global_frame (get_or inside.entries.values slot 0) inside.frames ≡ c.global_of.result = sym (c.global_of.ensures ∙ ap (λ entry. global_frame entry inside.frames) c.in_ok-slot.ensures.entry) in
+    all-linked inside.frames inside.entries.values inside.chains c.self.invariant slot c.in_ok-slot.ensures.there c.global_of.result named
 
 pub invariant_of-self-2 : goal.invariant_of-self-2
 invariant_of-self-2 c =
     let inside = c.self.inside in
-    let place = c.in_ok-place.place in
-    let named : global_frame (get_or inside.entries.values place 0) inside.frames ≡ c.global_of.result = sym (c.global_of.ensures ∙ ap (λ entry. global_frame entry inside.frames) c.in_ok-place.ensures.entry) in
-    rw (c.in_ok-place.ensures.values, c.unlink.ensures) (linked-without inside.frames inside.entries.values inside.chains c.self.invariant place c.in_ok-place.ensures.there c.global_of.result named)
+    let slot = c.in_ok-slot.slot in
+    let named : global_frame (get_or inside.entries.values slot 0) inside.frames ≡ c.global_of.result = sym (c.global_of.ensures ∙ ap (λ entry. global_frame entry inside.frames) c.in_ok-slot.ensures.entry) in
+    rw (c.in_ok-slot.ensures.values, c.unlink.ensures) (linked-without inside.frames inside.entries.values inside.chains c.self.invariant slot c.in_ok-slot.ensures.there c.global_of.result named)

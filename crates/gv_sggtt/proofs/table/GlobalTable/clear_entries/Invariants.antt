@@ -8,8 +8,8 @@ use Rattle.gv_sggtt.specs.Table.{Table, IsTable}
 use Rattle.gv_sggtt.proofs.table.GlobalTable.clear_entries.Given as goal
 
 -- the table mirrors as far as it is, and has its pins
-abbrev pub invariant-loop-place : goal.invariant-loop-place
-invariant-loop-place g l =
+abbrev pub invariant-loop-slot : goal.invariant-loop-slot
+invariant-loop-slot g l =
     let now = g.G.Gpu.state l.gpu in
     let start = g.G.Gpu.state l.fn.gpu in
     let inside = l.self-inside in
@@ -25,5 +25,5 @@ invariant-loop-place g l =
       changes : ChangesOnly (entries_part l.fn.self.ranges) 0 start now;
     }
 
-abbrev pub decreases-loop-place : goal.decreases-loop-place
-decreases-loop-place g l = l.self-inside.entries.left
+abbrev pub decreases-loop-slot : goal.decreases-loop-slot
+decreases-loop-slot g l = l.self-inside.entries.left

@@ -27,24 +27,24 @@ pub returns-clause-mirrors : goal.returns-clause-mirrors
 returns-clause-mirrors g c =
     let inside = c.self.inside in
     let table : Table = record { ranges = inside.ranges; frames = inside.entries.frames; entries = inside.entries.values; guarded = inside.guarded.items } in
-    let place = c.in-Some.place in
+    let slot = c.in-Some.slot in
     let value = c.args.value in
-    let there : place < length table.entries = subst (λ n. place < n) (sym c.self.invariant.whole) c.in-Some.ensures.within in
+    let there : slot < length table.entries = subst (λ n. slot < n) (sym c.self.invariant.whole) c.in-Some.ensures.within in
     let frame : c.frame-2.result ≡ global_frame value table.frames =
     c.frame-2.ensures
-    ∙ ap (λ (entries : List ℕ). global_frame (get_or entries place 0) c.set.new.self.frames) c.set.ensures.values
-    ∙ ap (λ frames. global_frame (get_or (set table.entries place value) place 0) frames) c.set.ensures.frames
-    ∙ ap (λ entry. global_frame entry table.frames) (get_or-set_same table.entries place value 0 there) in
+    ∙ ap (λ (entries : List ℕ). global_frame (get_or entries slot 0) c.set.new.self.frames) c.set.ensures.values
+    ∙ ap (λ frames. global_frame (get_or (set table.entries slot value) slot 0) frames) c.set.ensures.frames
+    ∙ ap (λ entry. global_frame entry table.frames) (get_or-set_same table.entries slot value 0 there) in
     let granted : c.unguarded-frame.result ≡ entry_grant table value = c.unguarded-frame.ensures ∙ ap (λ flags. unless (guards flags) c.frame-2.result) c.deref-2.ensures.value ∙ ap (unless (guards table.guarded)) frame in
-    let written : Table = record table { entries = set table.entries place value } in
+    let written : Table = record table { entries = set table.entries slot value } in
     let is : written ≡ record table { entries = c.set.new.self.values; frames = c.set.new.self.frames } = λ i. record table { entries = sym c.set.ensures.values i; frames = sym c.set.ensures.frames i } in
     let d = g.G.Gpu.state c.args.gpu.now in
     let placed = c.args.memory.now.frames in
     let after = with_global d c.args.page c.physical.result in
     let names = subst (λ (o : Option ℕ). NamesFrame placed o c.physical.result) granted c.physical.ensures in
     let before = subst (λ (t : Table). Mirrors d t placed) (sym c.self.view_is) c.requires.mirrors in
-    let at = sym c.in-Some.ensures.place in
-    let mirrors = mirrors-written d table placed c.args.page place value c.physical.result c.self.invariant at c.in-Some.ensures.within names before in
+    let at = sym c.in-Some.ensures.slot in
+    let mirrors = mirrors-written d table placed c.args.page slot value c.physical.result c.self.invariant at c.in-Some.ensures.within names before in
     let placed_at = subst (λ (o : Option ℕ). Mirrors after (record table { entries = with_entry_at table.entries o value }) placed) at mirrors in
     subst (λ (e : Device). Mirrors e (record table { entries = c.set.new.self.values; frames = c.set.new.self.frames }) placed) (sym c.set_global.ensures)
     (subst (λ (t : Table). Mirrors after t placed) is placed_at)
@@ -53,22 +53,22 @@ pub returns-clause-pins : goal.returns-clause-pins
 returns-clause-pins g c =
     let inside = c.self.inside in
     let table : Table = record { ranges = inside.ranges; frames = inside.entries.frames; entries = inside.entries.values; guarded = inside.guarded.items } in
-    let place = c.in-Some.place in
+    let slot = c.in-Some.slot in
     let value = c.args.value in
-    let there : place < length table.entries = subst (λ n. place < n) (sym c.self.invariant.whole) c.in-Some.ensures.within in
+    let there : slot < length table.entries = subst (λ n. slot < n) (sym c.self.invariant.whole) c.in-Some.ensures.within in
     let frame : c.frame-2.result ≡ global_frame value table.frames =
     c.frame-2.ensures
-    ∙ ap (λ (entries : List ℕ). global_frame (get_or entries place 0) c.set.new.self.frames) c.set.ensures.values
-    ∙ ap (λ frames. global_frame (get_or (set table.entries place value) place 0) frames) c.set.ensures.frames
-    ∙ ap (λ entry. global_frame entry table.frames) (get_or-set_same table.entries place value 0 there) in
+    ∙ ap (λ (entries : List ℕ). global_frame (get_or entries slot 0) c.set.new.self.frames) c.set.ensures.values
+    ∙ ap (λ frames. global_frame (get_or (set table.entries slot value) slot 0) frames) c.set.ensures.frames
+    ∙ ap (λ entry. global_frame entry table.frames) (get_or-set_same table.entries slot value 0 there) in
     let granted : c.unguarded-frame.result ≡ entry_grant table value = c.unguarded-frame.ensures ∙ ap (λ flags. unless (guards flags) c.frame-2.result) c.deref-2.ensures.value ∙ ap (unless (guards table.guarded)) frame in
-    let written : Table = record table { entries = set table.entries place value } in
+    let written : Table = record table { entries = set table.entries slot value } in
     let is : written ≡ record table { entries = c.set.new.self.values; frames = c.set.new.self.frames } = λ i. record table { entries = sym c.set.ensures.values i; frames = sym c.set.ensures.frames i } in
     let pins = c.args.memory.now.pins in
-    let old : c.unguarded.result ≡ entry_grant table (get_or table.entries place 0) = c.unguarded.ensures ∙ ap (λ flags. unless (guards flags) c.frame.result) c.deref.ensures.value ∙ ap (unless (guards table.guarded)) c.frame.ensures in
+    let old : c.unguarded.result ≡ entry_grant table (get_or table.entries slot 0) = c.unguarded.ensures ∙ ap (λ flags. unless (guards flags) c.frame.result) c.deref.ensures.value ∙ ap (unless (guards table.guarded)) c.frame.ensures in
     let less = subst (λ (o : Option ℕ). (k : ℕ) → get_or c.unpin.new.pins k 0 + cond (is_frame k o) 1 0 ≡ get_or pins k 0) old c.unpin.ensures.each in
     let more = subst (λ (o : Option ℕ). (k : ℕ) → get_or c.pin.new.pins k 0 ≡ get_or c.unpin.new.pins k 0 + cond (is_frame k o) 1 0) granted c.pin.ensures.each in
-    let changes = changes-written table place value there pins c.unpin.new.pins c.pin.new.pins c.unpin.ensures.frames c.pin.ensures.frames less more in
+    let changes = changes-written table slot value there pins c.unpin.new.pins c.pin.new.pins c.unpin.ensures.frames c.pin.ensures.frames less more in
     subst (λ (t : Table). ChangesOwnPins t (record table { entries = c.set.new.self.values; frames = c.set.new.self.frames }) pins c.pin.new.pins) c.self.view_is
     (subst (λ (t : Table). ChangesOwnPins table t pins c.pin.new.pins) is changes)
 
