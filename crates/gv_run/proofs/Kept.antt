@@ -11,8 +11,8 @@ use Rattle.gv_run.proofs.OneGuest.{device-there}
 
 keeps_one : (d : Device) (own : ℕ → ℕ → Bool) (guests : List Vgpu) (v : Vgpu) (g : ℕ) → Ties d own guests → g < length guests → get_or guests g v ≡ v → (pages : List ℕ) × Stands d (record { guest = g; pages = pages }) × (memory_in d (record { guest = g; pages = pages }) ≡ (device_at (machine_in d own guests) g).memory)
 keeps_one d own guests v g ties within at =
-    let is : v.memory ≡ record { guest = g; pages = v.memory.pages } = ap (λ n. record (v.memory) { guest = n }) (ties.number g v within at) in
-    (v.memory.pages, subst (Stands d) is (ties.holds g v within at).tables.stands, ap (λ (p : PrivateDevice). p.memory) (sym (device-there own d guests g v within at)))
+    let is : v.memory.frames ≡ record { guest = g; pages = v.memory.frames.pages } = ap (λ n. record (v.memory.frames) { guest = n }) (ties.number g v within at) in
+    (v.memory.frames.pages, subst (Stands d) is (ties.holds g v within at).tables.stands, ap (λ (p : PrivateDevice). p.memory) (sym (device-there own d guests g v within at)))
 
 pub keeps-ties : (d : Device) (own : ℕ → ℕ → Bool) (guests : List Vgpu) → Ties d own guests → Keeps d (machine_in d own guests)
 keeps-ties d own [] ties g h = absurd (omega arith)

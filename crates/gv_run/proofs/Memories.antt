@@ -13,13 +13,13 @@ use Rattle.gv_run.proofs.OneGuest.{device-there}
 use Rattle.gv_run.proofs.Text.{said_more, said_none}
 
 module _ (d : Device) (own : ℕ → ℕ → Bool) (guests : List Vgpu) (k : ℕ) where
-  pub memories_kept : (v : Vgpu) → k < length guests → get_or guests k v ≡ v → (before after all : List ℕ) → after ≡ before ++ text_of (memory_said k (memory_in d v.memory)) → before ++ text_of (memories_said k (drop k (machine_in d own guests))) ≡ all → after ++ text_of (memories_said (k + 1) (drop (k + 1) (machine_in d own guests))) ≡ all
+  pub memories_kept : (v : Vgpu) → k < length guests → get_or guests k v ≡ v → (before after all : List ℕ) → after ≡ before ++ text_of (memory_said k (memory_in d v.memory.frames)) → before ++ text_of (memories_said k (drop k (machine_in d own guests))) ≡ all → after ++ text_of (memories_said (k + 1) (drop (k + 1) (machine_in d own guests))) ≡ all
   memories_kept v h at before after all said kept =
       let m = machine_in d own guests in
       let there : k < length m = rw length-map h in
       let rest = memories_said (k + 1) (drop (k + 1) m) in
       let step = at_drop_more (memories_said k) m k (new_device 0 0 no_ranges) there ∙ ap (λ (p : PrivateDevice). memory_said k p.memory ++ rest) (device-there own d guests k v h at) in
-      said_more before after (memory_said k (memory_in d v.memory)) rest said ∙ ap (λ lines. before ++ text_of lines) (sym step) ∙ kept
+      said_more before after (memory_said k (memory_in d v.memory.frames)) rest said ∙ ap (λ lines. before ++ text_of lines) (sym step) ∙ kept
 
   pub memories_done : length guests ≤ k → (before all : List ℕ) → before ++ text_of (memories_said k (drop k (machine_in d own guests))) ≡ all → before ≡ all
   memories_done past before all kept =
