@@ -146,10 +146,11 @@ fn report_lines_are_written_in_pieces(rt: HostRuntime) -> Result<(), Fail> {
         let mut writer = ReportWriter::new(alloc).map_err(|_| "no memory")?;
         let mut text = Vec::new(alloc);
         for _ in 0..7_000 {
-            assert_eq!(rt; writer.push(&mut sink, b"0 r4 ffc 0\n"), Ok(()));
+            assert_eq!(rt; writer.push(b"0 r4 ffc 0\n"), Ok(()));
+            assert_eq!(rt; writer.pass_on(&mut sink), Ok(()));
             text.extend_from_slice(b"0 r4 ffc 0\n")?;
         }
-        assert_eq!(rt; sink.bytes().len(), 65_527);
+        assert_eq!(rt; sink.bytes().len(), 65_538);
         assert_eq!(rt; writer.flush(&mut sink), Ok(()));
         assert_eq!(rt; sink.bytes(), text.as_slice());
     }
@@ -161,10 +162,10 @@ fn what_is_not_written_stays_held(rt: HostRuntime) -> Result<(), Fail> {
     let alloc = rt.alloc();
     let mut sink = MemorySink::new(alloc, 100, 2, vec![in alloc; 3]?).map_err(|_| "no memory")?;
     let mut writer = ReportWriter::new(alloc).map_err(|_| "no memory")?;
-    assert_eq!(rt; writer.push(&mut sink, b"refused 4\n"), Ok(()));
+    assert_eq!(rt; writer.push(b"refused 4\n"), Ok(()));
     assert_eq!(rt; writer.flush(&mut sink), Err(SinkFailed));
     assert_eq!(rt; sink.bytes(), b"refu".as_slice());
-    assert_eq!(rt; writer.push(&mut sink, b"done\n"), Ok(()));
+    assert_eq!(rt; writer.push(b"done\n"), Ok(()));
     assert_eq!(rt; writer.flush(&mut sink), Ok(()));
     assert_eq!(rt; sink.bytes(), b"refused 4\ndone\n".as_slice());
     Ok(())

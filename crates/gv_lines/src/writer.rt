@@ -1,4 +1,4 @@
-ghost use Rattle.std.specs.Prelude.{◌≡◌, ◌≤◌, [], ◌++◌, length, drop, vec_len, vec_capacity, IfOk, OnOk, OnErr};
+ghost use Rattle.std.specs.Prelude.{◌≡◌, ◌≤◌, [], ◌++◌, length, drop, vec_len, IfOk, OnOk, OnErr};
 ghost use Rattle.gv_outside.specs.Causes.{HasCause};
 ghost use Rattle.gv_lines.specs.Writer.{PassesOn};
 
@@ -10,8 +10,9 @@ use std::marker::Model;
 /// How many bytes are written at a time at the most.
 const PIECE: usize = 65_536;
 
-/// Writes report lines to a sink, piece by piece. It takes its memory once. A clause sees the bytes that
-/// it holds, which aren't written yet.
+/// Writes report lines to a sink, piece by piece. It takes room for a piece at first, and more only where
+/// more than half a piece is pushed before it passes on what it holds. A clause sees the bytes that it
+/// holds, which aren't written yet.
 #[derive(Drop)]
 pub struct ReportWriter {
     buffer: Vec<u8>,
@@ -19,13 +20,13 @@ pub struct ReportWriter {
 }
 
 impl Model for ReportWriter {
-    ghost use Rattle.std.specs.Prelude.{ℕ, List, ◌≤◌, drop, vec_len, vec_capacity};
+    ghost use Rattle.std.specs.Prelude.{ℕ, List, ◌≤◌, drop, vec_len};
 
     ghost Value = { List ℕ };
 
     ghost view = { λ w. drop w.written w.buffer.items };
 
-    ghost invariant = { λ w. (w.written ≤ vec_len w.buffer) × (vec_len w.buffer ≤ 65536) × (65536 ≤ vec_capacity w.buffer) };
+    ghost invariant = { λ w. w.written ≤ vec_len w.buffer };
 }
 
 impl ReportWriter {
@@ -39,20 +40,24 @@ impl ReportWriter {
         })
     }
 
-    /// One more line. Where there is no room for it, what is held is written first; where that fails, the
-    /// line isn't taken.
-    pub fn push<K: Sink>(&mut self, sink: &mut K, line: &[u8]) -> Result<(), SinkFailed>
-        requires { length line.now ≤ 65536 }
-        ensures ok { OnOk result (PassesOn (self.old ++ line.now) self.new (K.held sink.old) (K.held sink.new)) }
-        ensures err { OnErr result (PassesOn self.old self.new (K.held sink.old) (K.held sink.new)) }
-        ensures bound { length self.new ≤ 65536 }
+    /// One more line. Where there is no memory for it, it isn't taken.
+    pub fn push(&mut self, line: &[u8]) -> Result<(), OutOfMemory>
+        ensures ok { OnOk result (self.new ≡ self.old ++ line.now) }
+        ensures err { OnErr result (self.new ≡ self.old) }
+    {
+        self.buffer.extend_from_slice(line)?;
+        Ok(())
+    }
+
+    /// Writes what is held, once it is half a piece or more. What isn't written stays held.
+    pub fn pass_on<K: Sink>(&mut self, sink: &mut K) -> Result<(), SinkFailed>
+        ensures passes { PassesOn self.old self.new (K.held sink.old) (K.held sink.new) }
         ensures cause { HasCause (K.faults sink.old) (K.faults sink.new) result }
     {
-        if line.len() > PIECE - self.buffer.len() {
-            write_out(&mut self.buffer, &mut self.written, sink)?;
+        if self.buffer.len() < PIECE / 2 {
+            return Ok(());
         }
-        self.buffer.extend_from_slice(line).unwrap();
-        Ok(())
+        write_out(&mut self.buffer, &mut self.written, sink)
     }
 
     /// Writes what is held. Where that fails, what wasn't written stays held.
@@ -76,11 +81,11 @@ fn write_out<K: Sink>(
     ensures err { OnErr result (buffer.new.items ≡ buffer.old.items) }
     ensures within { written.new ≤ vec_len buffer.new }
     ensures passes { PassesOn (drop written.old buffer.old.items) (drop written.new buffer.new.items) (K.held sink.old) (K.held sink.new) }
-    ensures capacity { vec_capacity buffer.new ≡ vec_capacity buffer.old }
     ensures cause { HasCause (K.faults sink.old) (K.faults sink.new) result }
 {
     while *written < buffer.len() {
-        *written += sink.write(&buffer[*written..])?;
+        let end = buffer.len().min(*written + PIECE);
+        *written += sink.write(&buffer[*written..end])?;
     }
     buffer.clear();
     *written = 0;

@@ -21,25 +21,22 @@ use Rattle.gv_run.proofs.Text.{said_more, said_none}
 abbrev pub left_of : Bool → Known → ℕ → List ℕ → Script
 left_of whole known n rest = script_from whole known n (lines_of (counts_last whole) rest)
 
-module _ (whole : Bool) (known : Known) (n : ℕ) (rest : List ℕ) where
-  pub left_missing : lines_of (counts_last whole) rest ≡ [] → left_of whole known n rest ≡ ends (missing whole n)
-  left_missing none = ap (script_from whole known n) none
+-- what the next line, of these bytes, makes of a script
+module _ (known : Known) (n : ℕ) (bytes : List ℕ) (rest : Known → Script) (script : Script) (is : script ≡ script_on known n (accepted known bytes) rest) where
+  on_line : (o : Option Line) → accepted known bytes ≡ o → script ≡ script_on known n o rest
+  on_line o found = is ∙ ap (λ o. script_on known n o rest) found
 
-  module _ (bytes after : List ℕ) (split : lines_of (counts_last whole) rest ≡ bytes ∷ lines_of (counts_last whole) after) where
-    on_line : (o : Option Line) → accepted known bytes ≡ o → left_of whole known n rest ≡ script_on known n o (λ next. left_of whole next (n + 1) after)
-    on_line o is = ap (script_from whole known n) split ∙ ap (λ o. script_on known n o (λ next. left_of whole next (n + 1) after)) is
+  pub left_refused : accepted known bytes ≡ None → script ≡ ends (BadScript n)
+  left_refused found = on_line None found
 
-    pub left_refused : accepted known bytes ≡ None → left_of whole known n rest ≡ ends (BadScript n)
-    left_refused is = on_line None is
+  by_end : (line : Line) (b : Bool) → accepted known bytes ≡ Some line → is_end line ≡ b → script ≡ cond b (ends Done) (onto_script line (rest (known_after known line)))
+  by_end line b found last = on_line (Some line) found ∙ ap (λ b. cond b (ends Done) (onto_script line (rest (known_after known line)))) last
 
-    by_end : (line : Line) (b : Bool) → accepted known bytes ≡ Some line → is_end line ≡ b → left_of whole known n rest ≡ cond b (ends Done) (onto_script line (left_of whole (known_after known line) (n + 1) after))
-    by_end line b is last = on_line (Some line) is ∙ ap (λ b. cond b (ends Done) (onto_script line (left_of whole (known_after known line) (n + 1) after))) last
+  pub left_ended : (line : Line) → accepted known bytes ≡ Some line → is_end line ≡ true → script ≡ ends Done
+  left_ended line found last = by_end line true found last
 
-    pub left_ended : (line : Line) → accepted known bytes ≡ Some line → is_end line ≡ true → left_of whole known n rest ≡ ends Done
-    left_ended line is last = by_end line true is last
-
-    pub left_line : (line : Line) → accepted known bytes ≡ Some line → is_end line ≡ false → left_of whole known n rest ≡ onto_script line (left_of whole (known_after known line) (n + 1) after)
-    left_line line is last = by_end line false is last
+  pub left_line : (line : Line) → accepted known bytes ≡ Some line → is_end line ≡ false → script ≡ onto_script line (rest (known_after known line))
+  left_line line found last = by_end line false found last
 
 -- ---- what was done, and what is left
 
@@ -98,12 +95,12 @@ module _ (all : Course Machine Came) (before : List ℕ) (start : Device) where
   left-part c now d kept = record { left = ran_all c.came; part = kept.ran }
 
 -- nothing is left of a course
-pub over : (all c : Course Machine Came) (start : Device) (old : Run) (d : Device) (new : Run) → Left all old.report.items start c new.report.items d → c ≡ record { left = machine_in d first_owner new.guests.items; came = [] } → Plays all start old d new
+pub over : (all c : Course Machine Came) (start : Device) (old : Run) (d : Device) (new : Run) → Left all old.report start c new.report d → c ≡ record { left = machine_in d first_owner new.guests.items; came = [] } → Plays all start old d new
 over all c start old d new kept is =
     let whole : kept.ran.done ≡ ran_all all.came = sym (append-nil kept.ran.done) ∙ sym (ap (λ (c : Course Machine Came). kept.ran.done ++ ran_all c.came) is) ∙ kept.ran.front in
     record {
       machine = sym (ap (λ (c : Course Machine Came). c.left) is) ∙ kept.machine;
-      report = said_none new.report.items ∙ sym (ap (λ (c : Course Machine Came). new.report.items ++ text_of (said_all c.came)) is) ∙ kept.report;
+      report = said_none new.report ∙ sym (ap (λ (c : Course Machine Came). new.report ++ text_of (said_all c.came)) is) ∙ kept.report;
       ran = subst (Ran start d) whole kept.ran.ran;
     }
 
@@ -140,10 +137,6 @@ module _ (m0 m : Machine) (before now : List ℕ) (start d : Device) (all left :
     pub line-began : (e : Device) → RanPart d e (ran_all (line_course m line).came) → RanPart start e (ran_all (course_of m0 all).came)
     line-began e part = stops_within (course_of m0 all) before start (line_course m line) (course_of (line_course m line).left rest) now d first_left e part
 
--- nothing is left of a script
-pub end-over : (m0 : Machine) (start : Device) (all : Script) (old : Run) (d : Device) (new : Run) (left : Script) → LeftOf m0 old.report.items start all (machine_in d first_owner new.guests.items) new.report.items d left → (ending : Ending) → left ≡ ends ending → Plays (course_of m0 all) start old d new
-end-over m0 start all old d new left kept ending is = over (course_of m0 all) _ start old d new kept.course (ap (course_of (machine_in d first_owner new.guests.items)) is)
-
 -- nothing is to be done
 pub plays_none : (d : Device) (run : Run) → Plays (record { left = machine_in d first_owner run.guests.items; came = [] }) d run d run
-plays_none d run = record { machine = refl; report = said_none run.report.items; ran = record { journal = sym (append-nil d.journal); strays = refl } }
+plays_none d run = record { machine = refl; report = said_none run.report; ran = record { journal = sym (append-nil d.journal); strays = refl } }

@@ -1,7 +1,9 @@
 pub mod AddedGuest
+pub mod Ahead
 pub mod Agreed
 pub mod Courses
 pub mod Devices
+pub mod Finishing
 pub mod Isolation
 pub mod Joined
 pub mod Journal
@@ -14,8 +16,8 @@ pub mod OneGuest
 pub mod OwnCourse
 pub mod OwnLines
 pub mod Printable
-pub mod Source
-pub mod Statuses
+pub mod Saying
+pub mod Streaming
 pub mod Text
 pub mod Values
 pub mod Words

@@ -1,6 +1,5 @@
 -- What the program promises of a run.
-use Rattle.std.specs.Prelude.{◌≡◌, ℕ, ◌<◌, ◌≤◌, List, [], ◌∷◌, Bool, true, false, Option, Some, IfSome, length, take, drop, codes}
-use Rattle.std.specs.Str.{bytes_eq}
+use Rattle.std.specs.Prelude.{◌≡◌, ℕ, ◌<◌, ◌≤◌, List, Bool, true, false, Option, Some, IfSome, length, take, drop}
 use Rattle.std.specs.Io.KnownBytes.{Appends}
 use Rattle.gv_text.specs.Guest.{lines_of_guest}
 use Rattle.gv_text.specs.Script.{script_of}
@@ -10,17 +9,26 @@ use Rattle.gv_gpu.specs.Device.{Device}
 use Rattle.gv_run.specs.Report.{report_of, commands_in}
 use Rattle.gv_run.specs.Solo.{solo, guests_of, frames_of, ranges_of, inputs_of, is_done}
 use Rattle.gv_run.specs.declared.call.Status.{Status}
-use Rattle.gv_run.specs.declared.call.Status.TheVariants.{Done, BadWords, ReadFault, BadScript, TooLong, DeviceFault}
+use Rattle.gv_run.specs.declared.call.Status.TheVariants.{Done, OutOfMemory, BadWords, ReadFault, WriteFault, BadScript, TooLong, DeviceFault}
+use Rattle.gv_run.specs.declared.stopped.Stopped.{Stopped}
+use Rattle.gv_run.specs.declared.stopped.Stopped.TheVariants as stops
+use Rattle.gv_words.specs.Task.{is_taken, task_meant}
+use Rattle.gv_words.specs.declared.task.Task.TheVariants.{Run}
 
--- the words that are a command
-abbrev pub is_run : List (List ℕ) → Bool
-is_run (word ∷ []) = bytes_eq word (codes "run")
-is_run words = false
+-- The words name the command `run`, by clap's meaning of the program's command.
+pub record NamesRun (words : List (List ℕ)) : Type 0 where
+  pub taken : is_taken words ≡ true
+  pub task : task_meant words ≡ Some Run
 
 abbrev pub status_of : Ending → Status
 status_of endings.Done = Done
 status_of (endings.BadScript n) = BadScript n
 status_of endings.TooLong = TooLong
+
+abbrev pub status_of_stop : Stopped → Status
+status_of_stop stops.OutOfMemory = OutOfMemory
+status_of_stop stops.Read = ReadFault
+status_of_stop stops.Write = WriteFault
 
 -- whether a status says how the script ended
 abbrev pub tells_ending : Status → Bool
@@ -51,13 +59,6 @@ IsPrivate source text =
 -- what was written is such a text
 abbrev pub WritesPrivate : Option (List ℕ) → Option (List ℕ) → List ℕ → Type 0
 WritesPrivate old new source = (text : List ℕ) × Appends old new text × IsPrivate source text
-
--- the statuses that a script which was read can have
-abbrev pub IsOfPlay : Status → Type 0
-IsOfPlay BadWords = ⊥
-IsOfPlay ReadFault = ⊥
-IsOfPlay DeviceFault = ⊥
-IsOfPlay status = Unit {0}
 
 -- Two scripts that a guest can't tell apart: they have the guest, with the same frames, ranges and
 -- inputs, and either both end with `end` or neither does.

@@ -4,4 +4,5 @@ pub mod Machine
 pub mod Report
 pub mod Solo
 pub mod Status
+pub mod Streamed
 pub mod Tied

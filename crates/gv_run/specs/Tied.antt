@@ -74,5 +74,5 @@ Keeps d m = (g : ℕ) → g < length m → (pages : List ℕ) × Stands d (recor
 -- report's end, and its commands ran.
 pub record Plays (c : Course Machine Done) (before : Device) (old : Run) (after : Device) (new : Run) : Type 0 where
   pub machine : machine_in after first_owner new.guests.items ≡ c.left
-  pub report : new.report.items ≡ old.report.items ++ text_of (said_all c.came)
+  pub report : new.report ≡ old.report ++ text_of (said_all c.came)
   pub ran : Ran before after (ran_all c.came)

@@ -1,17 +1,19 @@
-ghost use Rattle.std.specs.Prelude.{◌↔◌, ◌≡◌, ◌≢◌, ℕ, ◌+◌, ◌^◌, ◌<◌, ◌≤◌, length, IfOk, IfSome, IsErrOf, map, take, true, false};
+ghost use Rattle.std.specs.Prelude.{◌≡◌, ◌≢◌, ℕ, ◌+◌, ◌^◌, ◌<◌, ◌≤◌, ◌⊎◌, length, IfSome, map, take, true, false};
 ghost use Rattle.std.specs.Io.KnownBytes.{Appends};
 ghost use Rattle.gv_outside.specs.Causes.{Rose};
-ghost use Rattle.gv_gpu.specs.Change.{Ran, RanPart};
 ghost use Rattle.gv_gpu.specs.Device.{IsEmpty};
 ghost use Rattle.gv_run.specs.Report.{report_of, ending_of, machine_of, commands_in};
 ghost use Rattle.gv_text.specs.Script.{script_limit};
-ghost use Rattle.gv_run.specs.Headline.{is_run, status_of, tells_ending, TakesAtMost, WritesPart, WritesPrivate, RanPartOf, IsOfPlay};
+ghost use Rattle.gv_run.specs.Headline.{NamesRun, status_of, status_of_stop, tells_ending, TakesAtMost, WritesPart, WritesPrivate, RanPartOf};
+ghost use Rattle.gv_run.specs.Streamed.{StopsAtFault};
 ghost use Rattle.gv_run.specs.Tied.{Keeps};
 
-use crate::script::{LIMIT, run_script};
+use crate::script::run_script;
+use crate::stopped::Stopped;
 use gv_gpu::Gpu;
-use gv_outside::{ReadFailed, Sink, Source, read_up_to, write_all};
+use gv_outside::{Sink, Source};
 use gv_text::Ending;
+use gv_words::{Task, WordsRefused, task_of};
 use std::alloc::Global;
 
 /// How a run went.
@@ -55,15 +57,6 @@ impl Status {
     }
 }
 
-fn is_run(words: &[&str]) -> bool
-    ensures { result ≡ is_run (map (λ word. word.now) words.now) }
-{
-    match words {
-        [word] => word.as_bytes() == b"run".as_slice(),
-        _ => false,
-    }
-}
-
 fn status_of(ending: Ending) -> Status
     ensures { result ≡ status_of ending }
 {
@@ -74,40 +67,21 @@ fn status_of(ending: Ending) -> Status
     }
 }
 
-// What a script's source has, up to one byte past the limit, which tells that it has too many.
-fn read_script<S: Source>(alloc: Global, source: &mut S, most: usize) -> Result<Vec<u8>, ReadFailed>
-    requires { most ≡ script_limit + 1 }
-    ensures ok { IfOk result (λ text. IfSome (S.left source.old) (λ bytes. text.items ≡ take (script_limit + 1) bytes)) }
-    ensures taken { TakesAtMost (script_limit + 1) (S.left source.old) (S.left source.new) }
-    ensures failed { IsErrOf result ReadFailed.Source → Rose (S.faults source.old) (S.faults source.new) }
+// The status of a run that stopped.
+fn status_of_stop(stopped: Stopped) -> Status
+    ensures { result ≡ status_of_stop stopped }
 {
-    let text = read_up_to(alloc, source, most)?;
-    Ok(text)
-}
-
-// Runs a script and writes its report.
-fn play<K: Sink, G: Gpu>(alloc: Global, text: &[u8], sink: &mut K, gpu: &mut G) -> Status
-    requires { IsEmpty (G.state gpu.old) }
-    ensures ending { tells_ending result ≡ true → result ≡ status_of (ending_of text.now) }
-    ensures report { tells_ending result ≡ true → Appends (K.held sink.old) (K.held sink.new) (report_of text.now) }
-    ensures part { WritesPart (K.held sink.old) (K.held sink.new) text.now }
-    ensures pages { result ≡ Status.Done → Keeps (G.state gpu.new) (machine_of text.now) }
-    ensures ran { tells_ending result ≡ true → Ran (G.state gpu.old) (G.state gpu.new) (commands_in text.now) }
-    ensures ran_part { RanPart (G.state gpu.old) (G.state gpu.new) (commands_in text.now) }
-    ensures write { result ≡ Status.WriteFault → Rose (K.faults sink.old) (K.faults sink.new) }
-    ensures only { IsOfPlay result }
-{
-    let Ok(finished) = run_script(alloc, gpu, text) else {
-        return Status::OutOfMemory;
-    };
-    match write_all(sink, &finished.report) {
-        Ok(()) => status_of(finished.ending),
-        Err(_) => Status::WriteFault,
+    match stopped {
+        Stopped::OutOfMemory => Status::OutOfMemory,
+        Stopped::Read => Status::ReadFault,
+        Stopped::Write => Status::WriteFault,
     }
 }
 
-/// The whole program: `words` are its arguments without its name. For the one command `run` it reads
-/// a script from the source, runs it over the device, and writes the script's report to the sink.
+/// The whole program: `words` are its arguments without its name, which are read as clap reads them. For
+/// the command `run` it reads a script from the source, line by line, runs each line over the device as soon
+/// as its line feed was taken, and writes the script's report to the sink. The command `gen` isn't served
+/// yet, and answers `BadWords`.
 /// Where the source or the sink doesn't tell its bytes, the clauses on them claim nothing.
 ///
 /// Nothing ties `OutOfMemory` to a refused allocation.
@@ -135,22 +109,30 @@ pub fn mediate<S: Source, K: Sink, G: Gpu>(
     ensures strays { (G.state gpu.new).strays ≡ 0 }
     ensures pages { result ≡ Status.Done → IfSome (S.left source.old) (λ bytes. Keeps (G.state gpu.new) (machine_of bytes)) }
 
-    // Why each other status comes.
-    ensures words { (result ≡ Status.BadWords) ↔ (is_run (map (λ word. word.now) words.now) ≡ false) }
-    ensures unchanged { result ≡ Status.BadWords → (source.new ≡ source.old) × (sink.new ≡ sink.old) × (gpu.new ≡ gpu.old) }
+    // A line is run as soon as its line feed was taken, and what it says is written before a read fault is
+    // answered: the report of exactly the lines whose line feed was taken, none of which ends the script.
+    ensures fault { result ≡ Status.ReadFault → IfSome (S.left source.old) (λ bytes.
+        StopsAtFault (S.left source.old) (S.left source.new) (K.held sink.old) (K.held sink.new)) }
+
+    // Why each other status comes. Reading the words takes memory, which may be wanting.
+    ensures words { result ≡ Status.BadWords → ¬ NamesRun (map (λ word. word.now) words.now) }
+    ensures refused { ¬ NamesRun (map (λ word. word.now) words.now) → (result ≡ Status.BadWords) ⊎ (result ≡ Status.OutOfMemory) }
+    ensures unchanged { ¬ NamesRun (map (λ word. word.now) words.now) → (source.new ≡ source.old) × (sink.new ≡ sink.old) × (gpu.new ≡ gpu.old) }
     ensures read { result ≡ Status.ReadFault → Rose (S.faults source.old) (S.faults source.new) }
     ensures write { result ≡ Status.WriteFault → Rose (K.faults sink.old) (K.faults sink.new) }
     ensures device { result ≢ Status.DeviceFault }
-    ensures complete { is_run (map (λ word. word.now) words.now) ≡ true
+    ensures complete { NamesRun (map (λ word. word.now) words.now)
         → ¬ Rose (S.faults source.old) (S.faults source.new) → ¬ Rose (K.faults sink.old) (K.faults sink.new)
         → result ≢ Status.OutOfMemory → tells_ending result ≡ true }
 {
-    if !is_run(words) {
-        return Status::BadWords;
+    match task_of(alloc, words) {
+        Ok(Task::Run) => {}
+        Ok(Task::Gen(_)) => return Status::BadWords,
+        Err(WordsRefused::BadWords) => return Status::BadWords,
+        Err(WordsRefused::OutOfMemory) => return Status::OutOfMemory,
     }
-    match read_script(alloc, source, LIMIT + 1) {
-        Ok(text) => play(alloc, &text, sink, gpu),
-        Err(ReadFailed::OutOfMemory) => Status::OutOfMemory,
-        Err(ReadFailed::Source) => Status::ReadFault,
+    match run_script(alloc, source, sink, gpu) {
+        Ok(ending) => status_of(ending),
+        Err(stopped) => status_of_stop(stopped),
     }
 }

@@ -6,6 +6,7 @@ mod laws;
 mod machine;
 mod run;
 mod script;
+mod stopped;
 
 pub use call::{Status, mediate};
 pub use laws::equal_guests_are_told_the_same;

@@ -1,4 +1,8 @@
-ghost use Rattle.std.specs.Prelude.{◌≡◌, ℕ, ◌+◌, ◌*◌, ◌/◌, ◌%◌, ◌^◌, ◌<◌, ◌≤◌, ◌++◌, length, OnOk, IfSome, true, option_to_list, [], ◌∷◌};
+ghost use Rattle.std.specs.Prelude.{◌≡◌, ◌≢◌, ℕ, ◌+◌, ◌*◌, ◌/◌, ◌%◌, ◌^◌, ◌<◌, ◌≤◌, ◌++◌, length, IfOk, OnOk, IfSome, true, option_to_list, [], ◌∷◌};
+ghost use Rattle.std.specs.Io.KnownBytes.{Appends};
+ghost use Rattle.gv_outside.specs.Causes.{Rose};
+ghost use Rattle.gv_lines.specs.Writer.{PassesOn};
+ghost use Rattle.gv_run.specs.Streamed.{WritesFront};
 ghost use Rattle.gv_types.specs.Places.{end_of};
 ghost use Rattle.gv_types.specs.Memory.{bytes_of, all_ones};
 ghost use Rattle.gv_guest.specs.Placed.{Stands, memory_in};
@@ -17,8 +21,11 @@ ghost use Rattle.gv_run.specs.Report.{irq_said, failsafe_said, answer_said, alar
 ghost use Rattle.gv_run.specs.Tied.{Ties, first_owner, machine_in};
 
 use crate::machine;
+use crate::stopped::Stopped;
 use gv_gpu::Gpu;
 use gv_guest::Frames;
+use gv_lines::ReportWriter;
+use gv_outside::Sink;
 use gv_text::{Ending, Guest, Known, Line, ReportLine, print};
 use gv_types::{Answer, Event, GuestId, OutOfMemory, Place, Reason, Reply, Width};
 use gv_vgpu::Vgpu;
@@ -26,19 +33,18 @@ use std::alloc::Global;
 
 // Writes a line at the report's end.
 #[tactic(auto, using(crate::proofs::Text::said_one))]
-fn tell(report: &mut Vec<u8>, line: &ReportLine) -> Result<(), OutOfMemory>
+fn tell(report: &mut ReportWriter, line: &ReportLine) -> Result<(), OutOfMemory>
     requires { IsPrintable line.now }
-    ensures { OnOk result (report.new.items ≡ report.old.items ++ text_of (line.now ∷ [])) }
+    ensures { OnOk result (report.new ≡ report.old ++ text_of (line.now ∷ [])) }
 {
-    report.extend_from_slice(print(line).bytes())?;
-    Ok(())
+    report.push(print(line).bytes())
 }
 
 // Tells an interrupt that was injected, with the pending bits then.
 #[tactic(auto, using(crate::proofs::Text::said_none))]
-fn tell_irq(report: &mut Vec<u8>, guest: GuestId, irq: Option<u32>) -> Result<(), OutOfMemory>
+fn tell_irq(report: &mut ReportWriter, guest: GuestId, irq: Option<u32>) -> Result<(), OutOfMemory>
     requires { guest.0 < 8 }
-    ensures { OnOk result (report.new.items ≡ report.old.items ++ text_of (irq_said guest irq)) }
+    ensures { OnOk result (report.new ≡ report.old ++ text_of (irq_said guest irq)) }
 {
     match irq {
         Some(value) => tell(report, &ReportLine::Irq { guest, value }),
@@ -49,12 +55,12 @@ fn tell_irq(report: &mut Vec<u8>, guest: GuestId, irq: Option<u32>) -> Result<()
 // Tells that the guest entered failsafe.
 #[tactic(auto, using(crate::proofs::Text::said_none))]
 fn tell_failsafe(
-    report: &mut Vec<u8>,
+    report: &mut ReportWriter,
     guest: GuestId,
     failsafe: Option<Reason>,
 ) -> Result<(), OutOfMemory>
     requires { guest.0 < 8 }
-    ensures { OnOk result (report.new.items ≡ report.old.items ++ text_of (failsafe_said guest failsafe)) }
+    ensures { OnOk result (report.new ≡ report.old ++ text_of (failsafe_said guest failsafe)) }
 {
     match failsafe {
         Some(reason) => tell(report, &ReportLine::Failsafe { guest, reason }),
@@ -63,9 +69,9 @@ fn tell_failsafe(
 }
 
 // Tells what happens beside an event's answer.
-fn tell_alarms(report: &mut Vec<u8>, reply: &Reply) -> Result<(), OutOfMemory>
+fn tell_alarms(report: &mut ReportWriter, reply: &Reply) -> Result<(), OutOfMemory>
     requires { reply.now.guest.0 < 8 }
-    ensures { OnOk result (report.new.items ≡ report.old.items ++ text_of (alarms_said reply.now)) }
+    ensures { OnOk result (report.new ≡ report.old ++ text_of (alarms_said reply.now)) }
 {
     tell_irq(report, reply.guest, reply.irq)?;
     tell_failsafe(report, reply.guest, reply.failsafe)
@@ -101,13 +107,13 @@ fn answer_line(event: &Event, guest: GuestId, answer: Answer) -> Option<ReportLi
 }
 
 fn tell_answer(
-    report: &mut Vec<u8>,
+    report: &mut ReportWriter,
     event: &Event,
     guest: GuestId,
     answer: Answer,
 ) -> Result<(), OutOfMemory>
     requires { guest.0 < 8 }
-    ensures { OnOk result (report.new.items ≡ report.old.items ++ text_of (answer_said event.now guest answer)) }
+    ensures { OnOk result (report.new ≡ report.old ++ text_of (answer_said event.now guest answer)) }
 {
     match answer_line(event, guest, answer) {
         Some(line) => tell(report, &line),
@@ -116,9 +122,9 @@ fn tell_answer(
 }
 
 // Writes what is told of an event.
-fn tell_reply(report: &mut Vec<u8>, event: &Event, reply: &Reply) -> Result<(), OutOfMemory>
+fn tell_reply(report: &mut ReportWriter, event: &Event, reply: &Reply) -> Result<(), OutOfMemory>
     requires { reply.now.guest.0 < 8 }
-    ensures { OnOk result (report.new.items ≡ report.old.items ++ text_of (told event.now reply.now)) }
+    ensures { OnOk result (report.new ≡ report.old ++ text_of (told event.now reply.now)) }
 {
     tell_alarms(report, reply)?;
     tell_answer(report, event, reply.guest, reply.answer)
@@ -126,9 +132,9 @@ fn tell_reply(report: &mut Vec<u8>, event: &Event, reply: &Reply) -> Result<(), 
 
 // Tells a word of memory, unless it is 0.
 #[tactic(auto, using(crate::proofs::Text::said_none))]
-fn tell_word(report: &mut Vec<u8>, guest: GuestId, at: u64, value: u64) -> Result<(), OutOfMemory>
+fn tell_word(report: &mut ReportWriter, guest: GuestId, at: u64, value: u64) -> Result<(), OutOfMemory>
     requires { guest.0 < 8 }
-    ensures { OnOk result (report.new.items ≡ report.old.items ++ text_of (words_said guest.0 at (value ∷ []))) }
+    ensures { OnOk result (report.new ≡ report.old ++ text_of (words_said guest.0 at (value ∷ []))) }
 {
     if value == 0 {
         return Ok(());
@@ -136,58 +142,102 @@ fn tell_word(report: &mut Vec<u8>, guest: GuestId, at: u64, value: u64) -> Resul
     tell(report, &ReportLine::Memory { guest, at, value })
 }
 
-// Tells the words of a guest's memory that aren't 0, by address.
-fn tell_memory<G: Gpu>(
-    report: &mut Vec<u8>,
+// Tells the words of a guest's memory that aren't 0, by address, and passes them on as they are read.
+fn tell_memory<K: Sink, G: Gpu>(
+    report: &mut ReportWriter,
+    sink: &mut K,
     gpu: &G,
     guest: GuestId,
     memory: &Frames,
-) -> Result<(), OutOfMemory>
+) -> Result<(), Stopped>
     requires stands { Stands (G.state gpu.now) memory.now }
     requires there { guest.0 < 8 }
-    ensures { OnOk result (report.new.items ≡ report.old.items ++ text_of (memory_said guest.0 (memory_in (G.state gpu.now) memory.now))) }
+    ensures told { OnOk result (PassesOn (report.old ++ text_of (memory_said guest.0 (memory_in (G.state gpu.now) memory.now))) report.new (K.held sink.old) (K.held sink.new)) }
+    ensures part { WritesFront (report.old ++ text_of (memory_said guest.0 (memory_in (G.state gpu.now) memory.now))) (K.held sink.old) (K.held sink.new) }
+    ensures later { K.faults sink.old ≤ K.faults sink.new }
+    ensures cause { result ≡ Err Stopped.Write → Rose (K.faults sink.old) (K.faults sink.new) }
+    ensures reads { result ≢ Err Stopped.Read }
 {
     for number in 0..u64::from(memory.count()) * 512 {
         let value = memory.read(gpu, number * 8, Width::Eight);
         tell_word(report, guest, number * 8, value)?;
+        report.pass_on(sink)?;
     }
     Ok(())
 }
 
 // Tells the memory of all guests, in order.
-fn tell_memories<G: Gpu>(report: &mut Vec<u8>, gpu: &G, guests: &[Vgpu]) -> Result<(), OutOfMemory>
+fn tell_memories<K: Sink, G: Gpu>(
+    report: &mut ReportWriter,
+    sink: &mut K,
+    gpu: &G,
+    guests: &[Vgpu],
+) -> Result<(), Stopped>
     requires ties { Ties (G.state gpu.now) first_owner guests.now }
     requires few { length guests.now ≤ 8 }
-    ensures { OnOk result (report.new.items ≡ report.old.items ++ text_of (memories_said 0 (machine_in (G.state gpu.now) first_owner guests.now))) }
+    ensures told { OnOk result (PassesOn (report.old ++ text_of (memories_said 0 (machine_in (G.state gpu.now) first_owner guests.now))) report.new (K.held sink.old) (K.held sink.new)) }
+    ensures part { WritesFront (report.old ++ text_of (memories_said 0 (machine_in (G.state gpu.now) first_owner guests.now))) (K.held sink.old) (K.held sink.new) }
+    ensures later { K.faults sink.old ≤ K.faults sink.new }
+    ensures cause { result ≡ Err Stopped.Write → Rose (K.faults sink.old) (K.faults sink.new) }
+    ensures reads { result ≢ Err Stopped.Read }
 {
     for (number, guest) in guests.iter().enumerate() {
-        tell_memory(report, gpu, GuestId(number as u8), &guest.memory().frames)?;
+        tell_memory(report, sink, gpu, GuestId(number as u8), &guest.memory().frames)?;
     }
     Ok(())
 }
 
-/// A script that runs: what its lines have settled, the guests' devices, and the report so far.
+// Tells what is said at the end.
+fn tell_ending<K: Sink, G: Gpu>(
+    report: &mut ReportWriter,
+    sink: &mut K,
+    gpu: &G,
+    guests: &[Vgpu],
+    ending: Ending,
+) -> Result<(), Stopped>
+    requires ties { Ties (G.state gpu.now) first_owner guests.now }
+    requires few { length guests.now ≤ 8 }
+    ensures told { OnOk result (PassesOn (report.old ++ text_of (ending_said ending (machine_in (G.state gpu.now) first_owner guests.now))) report.new (K.held sink.old) (K.held sink.new)) }
+    ensures part { WritesFront (report.old ++ text_of (ending_said ending (machine_in (G.state gpu.now) first_owner guests.now))) (K.held sink.old) (K.held sink.new) }
+    ensures later { K.faults sink.old ≤ K.faults sink.new }
+    ensures cause { result ≡ Err Stopped.Write → Rose (K.faults sink.old) (K.faults sink.new) }
+    ensures reads { result ≢ Err Stopped.Read }
+{
+    let last = match ending {
+        Ending::Done => {
+            tell_memories(report, sink, gpu, guests)?;
+            ReportLine::Done
+        }
+        Ending::BadScript(number) => ReportLine::Refused(number),
+        Ending::TooLong => ReportLine::TooLong,
+    };
+    tell(report, &last)?;
+    Ok(())
+}
+
+/// A script that runs: what its lines have settled, the guests' devices, and what of the report was told
+/// and isn't written yet.
 #[derive(Drop)]
 pub struct Run {
     pub known: Known,
     pub guests: Vec<Vgpu>,
-    pub report: Vec<u8>,
+    pub report: ReportWriter,
 }
 
 impl Run {
     ghost use Rattle.gv_run.specs.Tied.{Agrees, IsGuestEvent, Plays};
 
     /// Before the first line.
-    pub fn new(alloc: Global) -> Run
-        ensures known { result.known ≡ nothing_known }
-        ensures guests { result.guests.items ≡ [] }
-        ensures report { result.report.items ≡ [] }
+    pub fn new(alloc: Global) -> Result<Run, OutOfMemory>
+        ensures known { IfOk result (λ run. run.known ≡ nothing_known) }
+        ensures guests { IfOk result (λ run. run.guests.items ≡ []) }
+        ensures report { IfOk result (λ run. run.report ≡ []) }
     {
-        Run {
+        Ok(Run {
             known: Known::NOTHING,
             guests: Vec::new(alloc),
-            report: Vec::new(alloc),
-        }
+            report: ReportWriter::new(alloc)?,
+        })
     }
 
     // One event of a guest that is there.
@@ -341,19 +391,22 @@ impl Run {
         Ok(())
     }
 
-    /// Writes what is said at the end.
-    pub fn finish<G: Gpu>(&mut self, gpu: &G, ending: Ending) -> Result<(), OutOfMemory>
+    /// Tells what is said at the end, and writes all that was told.
+    pub fn finish<K: Sink, G: Gpu>(
+        &mut self,
+        sink: &mut K,
+        gpu: &G,
+        ending: Ending,
+    ) -> Result<(), Stopped>
         requires { Agrees (G.state gpu.now) self.old.known self.old.guests.items }
-        ensures report { OnOk result (self.new.report.items ≡ self.old.report.items
-            ++ text_of (ending_said ending (machine_in (G.state gpu.now) first_owner self.old.guests.items))) }
+        ensures told { OnOk result (Appends (K.held sink.old) (K.held sink.new) (self.old.report ++ text_of (ending_said ending (machine_in (G.state gpu.now) first_owner self.old.guests.items)))) }
+        ensures part { WritesFront (self.old.report ++ text_of (ending_said ending (machine_in (G.state gpu.now) first_owner self.old.guests.items))) (K.held sink.old) (K.held sink.new) }
+        ensures later { K.faults sink.old ≤ K.faults sink.new }
+        ensures cause { result ≡ Err Stopped.Write → Rose (K.faults sink.old) (K.faults sink.new) }
+        ensures reads { result ≢ Err Stopped.Read }
     {
-        match ending {
-            Ending::Done => {
-                tell_memories(&mut self.report, gpu, &self.guests)?;
-                tell(&mut self.report, &ReportLine::Done)
-            }
-            Ending::BadScript(number) => tell(&mut self.report, &ReportLine::Refused(number)),
-            Ending::TooLong => tell(&mut self.report, &ReportLine::TooLong),
-        }
+        tell_ending(&mut self.report, sink, gpu, &self.guests, ending)?;
+        self.report.flush(sink)?;
+        Ok(())
     }
 }

@@ -1,5 +1,5 @@
-use Rattle.std.proofs.Common.{◌-◌, ◌≤◌, take, drop, length, arith, ap, subst, ◌∙◌}
-use Rattle.std.proofs.lemmas.List.{drop-drop, take_rest, length-drop}
+use Rattle.std.proofs.Common.{◌≡◌, ◌-◌, ◌≤◌, take, drop, length, arith, ap, subst, length-take}
+use Rattle.std.proofs.lemmas.List.{drop-drop, take-take, length-drop}
 use Rattle.std.specs.Io.KnownBytes.{Appends}
 use Rattle.gv_lines.specs.Writer.{PassesOn}
 use Rattle.gv_lines.proofs.Passing.{PassesOn-step}
@@ -12,9 +12,12 @@ loop-written-preserved g c =
     let first = c.args.written.now in
     let w = c.loop-written.written in
     let n = c.in_ok-written.field-0 in
-    let slice = ap (λ l. take (length l - w) (drop w l)) c.deref.ensures.value ∙ take_rest items w in
-    let few : n ≤ length (drop w items) = subst (λ l. n ≤ length l) slice c.in_ok-written.ensures.bound in
-    let bytes = subst (λ l. Appends (held c.loop-written.sink) (held c.write.new.self) (take n l)) slice c.in_ok-written.ensures.bytes in
+    let size = c.min-end.result - w in
+    let slice = ap (λ l. take size (drop w l)) c.deref.ensures.value in
+    let within : n ≤ length (take size (drop w items)) = subst (λ l. n ≤ length l) slice c.in_ok-written.ensures.bound in
+    let few : n ≤ length (drop w items) = omega (arith, length-take size (drop w items)) in
+    let front : take n (take size (drop w items)) ≡ take n (drop w items) = take-take n size (drop w items) (omega (arith, length-take size (drop w items))) in
+    let bytes = subst (λ l. Appends (held c.loop-written.sink) (held c.write.new.self) l) front (subst (λ l. Appends (held c.loop-written.sink) (held c.write.new.self) (take n l)) slice c.in_ok-written.ensures.bytes) in
     let step = PassesOn-step (drop first items) (drop w items) (held c.args.sink.now) (held c.loop-written.sink) (held c.write.new.self) n c.loop-written.invariant.passes few bytes in
     record {
       within = omega (arith, length-drop w items);

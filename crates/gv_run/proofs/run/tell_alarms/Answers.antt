@@ -6,5 +6,5 @@ pub returns : goal.returns
 returns c =
     let reply = c.args.reply.now in
     ok_then c.tell_failsafe.result
-    (said_twice c.args.report.now.items c.tell_irq.new.report.items c.tell_failsafe.new.report.items (irq_said reply.guest reply.irq) (failsafe_said reply.guest reply.failsafe) c.in_ok-tell_irq.ensures)
+    (said_twice c.args.report.now c.tell_irq.new.report c.tell_failsafe.new.report (irq_said reply.guest reply.irq) (failsafe_said reply.guest reply.failsafe) c.in_ok-tell_irq.ensures)
     c.tell_failsafe.ensures

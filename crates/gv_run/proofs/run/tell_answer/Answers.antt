@@ -6,8 +6,8 @@ use Rattle.gv_run.proofs.run.tell_answer.Goals as goal
 
 pub returns-in-Some : goal.returns-in-Some
 returns-in-Some c =
-    let old = c.args.report.now.items in
-    subst (λ (lines : List ReportLine). OnOk c.tell.result (c.tell.new.report.items ≡ old ++ text_of lines)) c.in-Some.ensures.value c.tell.ensures
+    let old = c.args.report.now in
+    subst (λ (lines : List ReportLine). OnOk c.tell.result (c.tell.new.report ≡ old ++ text_of lines)) c.in-Some.ensures.value c.tell.ensures
 
 pub returns-in-None : goal.returns-in-None
-returns-in-None c = said_none c.args.report.now.items ∙ ap (λ lines. c.args.report.now.items ++ text_of lines) c.in-None.ensures.value
+returns-in-None c = said_none c.args.report.now ∙ ap (λ lines. c.args.report.now ++ text_of lines) c.in-None.ensures.value

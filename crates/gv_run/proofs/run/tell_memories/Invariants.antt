@@ -1,11 +1,17 @@
-use Rattle.std.proofs.Common.{◌≡◌, ◌++◌, drop}
+use Rattle.std.proofs.Common.{◌≤◌, ◌++◌, drop}
 use Rattle.gv_text.specs.Report.{text_of}
 use Rattle.gv_run.specs.Report.{memories_said}
 use Rattle.gv_run.specs.Tied.{first_owner, machine_in}
+use Rattle.gv_run.proofs.Saying.{Saying}
 use Rattle.gv_run.proofs.run.tell_memories.Given as goal
 
 -- the guests so far and those that are left are all guests
 abbrev pub invariant-loop-number : goal.invariant-loop-number
 invariant-loop-number g l =
     let machine = machine_in (g.G.Gpu.state l.gpu) first_owner l.guests in
-    l.report.items ++ text_of (memories_said l.number (drop l.number machine)) ≡ l.fn.report.items ++ text_of (memories_said 0 machine)
+    let held = g.K.Sink.held in
+    let faults = g.K.Sink.faults in
+    record {
+      saying : Saying (l.fn.report ++ text_of (memories_said 0 machine)) (text_of (memories_said l.number (drop l.number machine))) l.report (held l.fn.sink) (held l.sink);
+      later : faults l.fn.sink ≤ faults l.sink;
+    }

@@ -6,5 +6,5 @@ pub returns : goal.returns
 returns c =
     let reply = c.args.reply.now in
     ok_then c.tell_answer.result
-    (said_twice c.args.report.now.items c.tell_alarms.new.report.items c.tell_answer.new.report.items (alarms_said reply) (answer_said c.args.event.now reply.guest reply.answer) c.in_ok-tell_alarms.ensures)
+    (said_twice c.args.report.now c.tell_alarms.new.report c.tell_answer.new.report (alarms_said reply) (answer_said c.args.event.now reply.guest reply.answer) c.in_ok-tell_alarms.ensures)
     c.tell_answer.ensures

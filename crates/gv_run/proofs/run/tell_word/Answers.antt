@@ -6,5 +6,5 @@ use Rattle.gv_run.proofs.run.tell_word.Goals as goal
 
 pub returns : goal.returns
 returns c =
-    subst (λ (lines : List ReportLine). OnOk c.tell.result (c.tell.new.report.items ≡ c.args.report.now.items ++ text_of lines))
+    subst (λ (lines : List ReportLine). OnOk c.tell.result (c.tell.new.report ≡ c.args.report.now ++ text_of lines))
     (sym (one_word c.args.guest.0 c.args.at c.args.value c.if-value-eq0.false)) c.tell.ensures

@@ -1,101 +1,178 @@
-use Rattle.std.proofs.Common.{sym, ◌∙◌, ◌+◌, arith, subst, refl}
-use Rattle.gv_text.specs.Script.{script_in, missing}
+use Rattle.std.proofs.Common.{◌≡◌, ◌+◌, ◌≤◌, ◌<◌, ◌++◌, ◌∷◌, [], List, Result, Ok, Err, length, refl, ap, sym, ◌∙◌, subst, arith}
+use Rattle.gv_text.specs.Script.{script_limit, script_limit-is, accepted}
 use Rattle.gv_text.specs.declared.known.Known.{Known}
-use Rattle.gv_text.specs.declared.ending.Ending.TheVariants.{Done, BadScript}
+use Rattle.gv_lines.specs.Reader.{ReaderState, HandsOut, IsOneLine, bytes_of}
+use Rattle.gv_lines.specs.declared.next.Next.{Next}
+use Rattle.gv_vgpu.specs.declared.vgpu.Vgpu.{Vgpu}
+use Rattle.gv_run.specs.Machine.{Machine}
 use Rattle.gv_run.specs.Tied.{first_owner, machine_in}
-use Rattle.gv_run.proofs.Left.{LeftOf, left_of, left_refused, left_ended, left_line, left_missing, whole_left, end-over, line-done, line-began, left-part}
+use Rattle.gv_run.proofs.Streaming.{Reading, reading-start, reading-begun, reading-passed, reading-taken, reading-fault, reading-ends, reading-refused, reading-ended, reading-began, reading-last, reading-began_last, reading-more, is_last-true, is_line, fewer-left, number-more}
 use Rattle.gv_run.proofs.script.run_lines.Goals as goal
 
-pub loop-bytes-init : goal.loop-bytes-init
-loop-bytes-init g c =
+pub loop-next-init : goal.loop-next-init
+loop-next-init g c =
     let d = g.G.Gpu.state c.args.gpu.now in
-    let m = machine_in d first_owner c.args.run.now.guests.items in
-    let before = c.args.run.now.report.items in
-    let all = script_in c.args.whole c.args.text.now in
+    let none = ap (λ (guests : List Vgpu). machine_in d first_owner guests) c.requires.guests in
+    let held = ap (λ (s : ReaderState). length s.held) c.requires.reader in
+    let taken = ap (λ (s : ReaderState). s.taken) c.requires.reader in
     record {
       agrees = c.requires.agrees;
-      left = subst (λ (known : Known). LeftOf m before d all m before d (left_of c.args.whole known 1 c.args.text.now)) (sym c.requires.new) (whole_left m before d all);
+      reading = reading-start d (g.K.Sink.held c.args.sink.now) (g.S.Source.left c.args.source.now) c.args.reader.now c.args.run.now.known (machine_in d first_owner c.args.run.now.guests.items) c.args.run.now.report c.requires.reader c.requires.known none c.requires.report;
       numbered = omega arith;
+      within = omega arith;
+      limit = ap (λ (s : ReaderState). s.limit) c.requires.reader;
+      strays = refl;
+      reads = omega arith;
+      writes = omega arith;
     }
+
+-- ---- the source fails
+
+pub returns-in_err-flush-clause-begun : goal.returns-in_err-flush-clause-begun
+returns-in_err-flush-clause-begun g c =
+    reading-begun (reading-passed c.loop-next.invariant.reading c.flush.new.self (g.K.Sink.held c.flush.new.sink) c.flush.ensures.passes)
+
+pub returns-in_err-flush-clause-taken : goal.returns-in_err-flush-clause-taken
+returns-in_err-flush-clause-taken g c =
+    reading-taken c.loop-next.invariant.reading c.advance.new.self (g.S.Source.left c.advance.new.source) [] c.in_default.ensures.hands_out c.advance.ensures.bound
+
+pub returns-in_default-clause-fault : goal.returns-in_default-clause-fault
+returns-in_default-clause-fault g c = λ stop.
+    reading-fault c.loop-next.invariant.reading c.advance.new.self (g.S.Source.left c.advance.new.source) c.in_default.ensures.hands_out c.in_default.ensures.nothing_held
+    c.flush.new.self c.in_ok-flush.ensures.ok (g.K.Sink.held c.flush.new.sink) c.flush.ensures.passes
+
+pub returns-in_default-clause-begun : goal.returns-in_default-clause-begun
+returns-in_default-clause-begun g c =
+    reading-begun (reading-passed c.loop-next.invariant.reading c.flush.new.self (g.K.Sink.held c.flush.new.sink) c.flush.ensures.passes)
+
+pub returns-in_default-clause-taken : goal.returns-in_default-clause-taken
+returns-in_default-clause-taken g c =
+    reading-taken c.loop-next.invariant.reading c.advance.new.self (g.S.Source.left c.advance.new.source) [] c.in_default.ensures.hands_out c.advance.ensures.bound
+
+-- ---- no line comes
+
+pub returns-in-Some-clause-done : goal.returns-in-Some-clause-done
+returns-in-Some-clause-done g c =
+    reading-ends c.loop-next.invariant.reading c.advance.new.self (g.S.Source.left c.advance.new.source) c.in-Ok.next c.in-Ok.ensures.tells
+    c.in-Some.ending (sym c.ending_at.ensures ∙ c.in-Some.is) c.loop-next.run.guests.items refl
+
+pub returns-in-Some-clause-begun : goal.returns-in-Some-clause-begun
+returns-in-Some-clause-begun g c = reading-begun c.loop-next.invariant.reading
+
+pub returns-in-Some-clause-taken : goal.returns-in-Some-clause-taken
+returns-in-Some-clause-taken g c =
+    reading-taken c.loop-next.invariant.reading c.advance.new.self (g.S.Source.left c.advance.new.source) _ c.in-Ok.ensures.hands_out c.advance.ensures.bound
+
+-- ---- a line comes
 
 pub returns-in_default-accepted-clause-done : goal.returns-in_default-accepted-clause-done
 returns-in_default-accepted-clause-done g c =
-    let run = c.loop-bytes.run in
-    let n = c.loop-bytes.number in
-    let rest = c.loop-bytes.rest.now in
-    let is = left_refused c.args.whole run.known n rest c.in-Some.bytes.now c.in-Some.after.now c.in-Some.ensures.lines (sym c.accepted.ensures.value ∙ c.in_default-accepted.is) in
-    end-over _ (g.G.Gpu.state c.args.gpu.now) _ c.args.run.now (g.G.Gpu.state c.loop-bytes.gpu) run (left_of c.args.whole run.known n rest) c.loop-bytes.invariant.left (BadScript n) is
+    let is = ap (accepted c.loop-next.run.known) (sym c.line-bytes.ensures) ∙ sym c.accepted.ensures.value ∙ c.in_default-accepted.is in
+    reading-refused c.loop-next.invariant.reading c.advance.new.self (g.S.Source.left c.advance.new.source) c.in-Ok.next c.in-Ok.ensures.tells
+    (sym c.ending_at.ensures ∙ c.in_default-ending_at.is) is c.loop-next.run.guests.items refl
 
-pub returns-in_default-accepted-clause-part : goal.returns-in_default-accepted-clause-part
-returns-in_default-accepted-clause-part g c = left-part _ _ _ _ c.loop-bytes.run.report.items (g.G.Gpu.state c.loop-bytes.gpu) c.loop-bytes.invariant.left.course
+pub returns-in_default-accepted-clause-begun : goal.returns-in_default-accepted-clause-begun
+returns-in_default-accepted-clause-begun g c = reading-begun c.loop-next.invariant.reading
+
+pub returns-in_default-accepted-clause-taken : goal.returns-in_default-accepted-clause-taken
+returns-in_default-accepted-clause-taken g c =
+    reading-taken c.loop-next.invariant.reading c.advance.new.self (g.S.Source.left c.advance.new.source) _ c.in-Ok.ensures.hands_out c.advance.ensures.bound
 
 pub returns-then-is_end-clause-done : goal.returns-then-is_end-clause-done
 returns-then-is_end-clause-done g c =
-    let run = c.loop-bytes.run in
-    let n = c.loop-bytes.number in
-    let rest = c.loop-bytes.rest.now in
-    let is = left_ended c.args.whole run.known n rest c.in-Some.bytes.now c.in-Some.after.now c.in-Some.ensures.lines c.in-Some-accepted.line
-    (sym c.accepted.ensures.value ∙ c.in-Some-accepted.is) (sym c.is_end.ensures ∙ c.if-is_end.true) in
-    end-over _ (g.G.Gpu.state c.args.gpu.now) _ c.args.run.now (g.G.Gpu.state c.loop-bytes.gpu) run (left_of c.args.whole run.known n rest) c.loop-bytes.invariant.left Done is
+    let is = ap (accepted c.loop-next.run.known) (sym c.line-bytes.ensures) ∙ sym c.accepted.ensures.value ∙ c.in-Some-accepted.is in
+    reading-ended c.loop-next.invariant.reading c.advance.new.self (g.S.Source.left c.advance.new.source) c.in-Ok.next c.in-Ok.ensures.tells
+    (sym c.ending_at.ensures ∙ c.in_default-ending_at.is) c.in-Some-accepted.line is (sym c.is_end.ensures ∙ c.if-is_end.true) c.loop-next.run.guests.items refl
 
-pub returns-then-is_end-clause-part : goal.returns-then-is_end-clause-part
-returns-then-is_end-clause-part g c = left-part _ _ _ _ c.loop-bytes.run.report.items (g.G.Gpu.state c.loop-bytes.gpu) c.loop-bytes.invariant.left.course
+pub returns-then-is_end-clause-begun : goal.returns-then-is_end-clause-begun
+returns-then-is_end-clause-begun g c = reading-begun c.loop-next.invariant.reading
 
-pub returns-then-whole-clause-done : goal.returns-then-whole-clause-done
-returns-then-whole-clause-done g c =
-    let run = c.loop-bytes.run in
-    let n = c.loop-bytes.number in
-    let rest = c.loop-bytes.rest.now in
-    let is = left_missing c.args.whole run.known n rest (c.in_default.ensures.none.0 refl) in
-    end-over _ (g.G.Gpu.state c.args.gpu.now) _ c.args.run.now (g.G.Gpu.state c.loop-bytes.gpu) run (left_of c.args.whole run.known n rest) c.loop-bytes.invariant.left (missing c.args.whole n) is
+pub returns-then-is_end-clause-taken : goal.returns-then-is_end-clause-taken
+returns-then-is_end-clause-taken g c =
+    reading-taken c.loop-next.invariant.reading c.advance.new.self (g.S.Source.left c.advance.new.source) _ c.in-Ok.ensures.hands_out c.advance.ensures.bound
 
-pub returns-then-whole-clause-part : goal.returns-then-whole-clause-part
-returns-then-whole-clause-part g c = left-part _ _ _ _ c.loop-bytes.run.report.items (g.G.Gpu.state c.loop-bytes.gpu) c.loop-bytes.invariant.left.course
+pub returns-in_err-line-clause-begun : goal.returns-in_err-line-clause-begun
+returns-in_err-line-clause-begun g c =
+    let is = ap (accepted c.loop-next.run.known) (sym c.line-bytes.ensures) ∙ sym c.accepted.ensures.value ∙ c.in-Some-accepted.is in
+    reading-began c.loop-next.invariant.reading c.advance.new.self (g.S.Source.left c.advance.new.source) c.in-Ok.next c.in-Ok.ensures.tells
+    (sym c.ending_at.ensures ∙ c.in_default-ending_at.is) c.in-Some-accepted.line is (sym c.is_end.ensures ∙ c.if-is_end.false) (g.G.Gpu.state c.line.new.gpu) c.in_err-line.ensures.part
 
-pub returns-else-whole-clause-done : goal.returns-else-whole-clause-done
-returns-else-whole-clause-done g c =
-    let run = c.loop-bytes.run in
-    let n = c.loop-bytes.number in
-    let rest = c.loop-bytes.rest.now in
-    let is = left_missing c.args.whole run.known n rest (c.in_default.ensures.none.0 refl) in
-    end-over _ (g.G.Gpu.state c.args.gpu.now) _ c.args.run.now (g.G.Gpu.state c.loop-bytes.gpu) run (left_of c.args.whole run.known n rest) c.loop-bytes.invariant.left (missing c.args.whole n) is
+pub returns-in_err-line-clause-taken : goal.returns-in_err-line-clause-taken
+returns-in_err-line-clause-taken g c =
+    reading-taken c.loop-next.invariant.reading c.advance.new.self (g.S.Source.left c.advance.new.source) _ c.in-Ok.ensures.hands_out c.advance.ensures.bound
 
-pub returns-else-whole-clause-part : goal.returns-else-whole-clause-part
-returns-else-whole-clause-part g c = left-part _ _ _ _ c.loop-bytes.run.report.items (g.G.Gpu.state c.loop-bytes.gpu) c.loop-bytes.invariant.left.course
+pub returns-in_err-pass_on-clause-begun : goal.returns-in_err-pass_on-clause-begun
+returns-in_err-pass_on-clause-begun g c =
+    let is = ap (accepted c.loop-next.run.known) (sym c.line-bytes.ensures) ∙ sym c.accepted.ensures.value ∙ c.in-Some-accepted.is in
+    let done = c.in_ok-line.ensures.done in
+    reading-began_last c.loop-next.invariant.reading c.advance.new.self (g.S.Source.left c.advance.new.source) c.in-Ok.next c.in-Ok.ensures.tells
+    (sym c.ending_at.ensures ∙ c.in_default-ending_at.is) c.in-Some-accepted.line is (sym c.is_end.ensures ∙ c.if-is_end.false)
+    _ c.line.new.self.report (g.G.Gpu.state c.line.new.gpu) done.machine done.report done.ran c.pass_on.new.self (g.K.Sink.held c.pass_on.new.sink) c.pass_on.ensures.passes
 
-pub loop-bytes-preserved : goal.loop-bytes-preserved
-loop-bytes-preserved g c =
-    let kept = c.loop-bytes.invariant in
-    let run = c.loop-bytes.run in
-    let n = c.loop-bytes.number in
-    let rest = c.loop-bytes.rest.now in
-    let line = c.in-Some-accepted.line in
-    let done = c.in_ok-line.ensures in
+pub returns-in_err-pass_on-clause-taken : goal.returns-in_err-pass_on-clause-taken
+returns-in_err-pass_on-clause-taken g c =
+    reading-taken c.loop-next.invariant.reading c.advance.new.self (g.S.Source.left c.advance.new.source) _ c.in-Ok.ensures.hands_out c.advance.ensures.bound
+
+pub overflow_add-number : goal.overflow_add-number
+overflow_add-number g c = omega (arith, script_limit-is)
+
+-- ---- the last line, which has no line feed
+
+pub returns-then-is_last-clause-done : goal.returns-then-is_last-clause-done
+returns-then-is_last-clause-done g c =
+    let is = ap (accepted c.loop-next.run.known) (sym c.line-bytes.ensures) ∙ sym c.accepted.ensures.value ∙ c.in-Some-accepted.is in
+    let done = c.in_ok-line.ensures.done in
+    reading-last c.loop-next.invariant.reading c.advance.new.self (g.S.Source.left c.advance.new.source) c.in-Ok.next c.in-Ok.ensures.tells
+    (sym c.ending_at.ensures ∙ c.in_default-ending_at.is) c.in-Some-accepted.line is (sym c.is_end.ensures ∙ c.if-is_end.false)
+    _ c.line.new.self.report (g.G.Gpu.state c.line.new.gpu) done.machine done.report done.ran
+    (is_last-true c.in-Ok.next (sym c.is_last.ensures ∙ c.if-is_last.true)) c.pass_on.new.self (g.K.Sink.held c.pass_on.new.sink) c.pass_on.ensures.passes c.line.new.self.guests.items refl
+
+pub returns-then-is_last-clause-begun : goal.returns-then-is_last-clause-begun
+returns-then-is_last-clause-begun g c =
+    let is = ap (accepted c.loop-next.run.known) (sym c.line-bytes.ensures) ∙ sym c.accepted.ensures.value ∙ c.in-Some-accepted.is in
+    let done = c.in_ok-line.ensures.done in
+    reading-began_last c.loop-next.invariant.reading c.advance.new.self (g.S.Source.left c.advance.new.source) c.in-Ok.next c.in-Ok.ensures.tells
+    (sym c.ending_at.ensures ∙ c.in_default-ending_at.is) c.in-Some-accepted.line is (sym c.is_end.ensures ∙ c.if-is_end.false)
+    _ c.line.new.self.report (g.G.Gpu.state c.line.new.gpu) done.machine done.report done.ran c.pass_on.new.self (g.K.Sink.held c.pass_on.new.sink) c.pass_on.ensures.passes
+
+pub returns-then-is_last-clause-taken : goal.returns-then-is_last-clause-taken
+returns-then-is_last-clause-taken g c =
+    reading-taken c.loop-next.invariant.reading c.advance.new.self (g.S.Source.left c.advance.new.source) _ c.in-Ok.ensures.hands_out c.advance.ensures.bound
+
+-- ---- the next round
+
+pub loop-next-smaller : goal.loop-next-smaller
+loop-next-smaller g c =
+    let t = c.advance.new.self in
+    let line = is_line c.in-Ok.next c.loop-next.number (sym c.ending_at.ensures ∙ c.in_default-ending_at.is) (sym c.is_last.ensures ∙ c.if-is_last.false) in
+    let hands = subst (λ (next : Next). HandsOut c.loop-next.reader t (g.S.Source.left c.loop-next.source) (g.S.Source.left c.advance.new.source) (bytes_of next t.line)) line c.in-Ok.ensures.hands_out in
+    fewer-left c.loop-next.reader t (g.S.Source.left c.loop-next.source) (g.S.Source.left c.advance.new.source) t.line hands c.advance.ensures.bound
+
+pub loop-next-preserved : goal.loop-next-preserved
+loop-next-preserved g c =
+    let t = c.advance.new.self in
+    let left = g.S.Source.left in
+    let held = g.K.Sink.held in
     let start = g.G.Gpu.state c.args.gpu.now in
-    let d = g.G.Gpu.state c.loop-bytes.gpu in
     let e = g.G.Gpu.state c.line.new.gpu in
-    let m = machine_in d first_owner run.guests.items in
-    let next = machine_in e first_owner c.line.new.self.guests.items in
-    let m0 = machine_in start first_owner c.args.run.now.guests.items in
-    let before = c.args.run.now.report.items in
-    let all = script_in c.args.whole c.args.text.now in
-    let after = c.in-Some.after.now in
-    let is = left_line c.args.whole run.known n rest c.in-Some.bytes.now after c.in-Some.ensures.lines line
-    (sym c.accepted.ensures.value ∙ c.in-Some-accepted.is) (sym c.is_end.ensures ∙ c.if-is_end.false) in
-    let on = line-done m0 m before run.report.items start d all (left_of c.args.whole run.known n rest) kept.left line _ is next c.line.new.self.report.items e done.done.machine done.done.report done.done.ran in
+    let n = c.loop-next.number in
+    let going = sym c.ending_at.ensures ∙ c.in_default-ending_at.is in
+    let line = is_line c.in-Ok.next n going (sym c.is_last.ensures ∙ c.if-is_last.false) in
+    let hands = subst (λ (next : Next). HandsOut c.loop-next.reader t (left c.loop-next.source) (left c.advance.new.source) (bytes_of next t.line)) line c.in-Ok.ensures.hands_out in
+    let plain = subst (λ (next : Next). IsOneLine next t.line) line c.in-Ok.ensures.one_line in
+    let is = ap (accepted c.loop-next.run.known) (sym c.line-bytes.ensures) ∙ sym c.accepted.ensures.value ∙ c.in-Some-accepted.is in
+    let done = c.in_ok-line.ensures.done in
+    let m = machine_in e first_owner c.line.new.self.guests.items in
+    let more = reading-more c.loop-next.invariant.reading t (left c.advance.new.source) c.in-Ok.next c.in-Ok.ensures.tells
+    going c.in-Some-accepted.line is (sym c.is_end.ensures ∙ c.if-is_end.false) m c.line.new.self.report e done.machine done.report done.ran plain hands in
+    let known = subst (λ (known : Known). Reading start (held c.args.sink.now) (left c.args.source.now) t (left c.advance.new.source) known (n + 1) m c.line.new.self.report e (held c.loop-next.sink)) (sym c.in_ok-line.ensures.known) more in
     record {
-      agrees = done.agrees;
-      left = subst (λ (known : Known). LeftOf m0 before start all next c.line.new.self.report.items e (left_of c.args.whole known (n + 1) after)) (sym done.known) on;
-      numbered = omega (arith, c.in-Some.ensures.shorter);
+      agrees = c.in_ok-line.ensures.agrees;
+      reading = reading-passed known c.pass_on.new.self (held c.pass_on.new.sink) c.pass_on.ensures.passes;
+      numbered = number-more c.loop-next.reader t (left c.loop-next.source) (left c.advance.new.source) t.line hands n c.loop-next.invariant.numbered;
+      within = omega (arith, c.advance.ensures.bound, hands.limit, c.loop-next.invariant.limit);
+      limit = hands.limit ∙ c.loop-next.invariant.limit;
+      strays = c.in_ok-line.ensures.done.ran.strays ∙ c.loop-next.invariant.strays;
+      reads = omega (arith, c.loop-next.invariant.reads, c.advance.ensures.cause.later);
+      writes = omega (arith, c.loop-next.invariant.writes, c.pass_on.ensures.cause.later);
     }
-
-pub returns-in_err-line-clause-part : goal.returns-in_err-line-clause-part
-returns-in_err-line-clause-part g c =
-    let run = c.loop-bytes.run in
-    let n = c.loop-bytes.number in
-    let rest = c.loop-bytes.rest.now in
-    let line = c.in-Some-accepted.line in
-    let d = g.G.Gpu.state c.loop-bytes.gpu in
-    let is = left_line c.args.whole run.known n rest c.in-Some.bytes.now c.in-Some.after.now c.in-Some.ensures.lines line
-    (sym c.accepted.ensures.value ∙ c.in-Some-accepted.is) (sym c.is_end.ensures ∙ c.if-is_end.false) in
-    line-began _ (machine_in d first_owner run.guests.items) c.args.run.now.report.items run.report.items _ d _ (left_of c.args.whole run.known n rest) c.loop-bytes.invariant.left line _ is (g.G.Gpu.state c.line.new.gpu) c.in_err-line.ensures.part

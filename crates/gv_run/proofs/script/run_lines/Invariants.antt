@@ -1,19 +1,25 @@
-use Rattle.std.proofs.Common.{◌+◌, ◌≤◌, length}
-use Rattle.gv_text.specs.Script.{script_in}
+use Rattle.std.proofs.Common.{◌≡◌, ◌+◌, ◌-◌, ◌≤◌, length}
+use Rattle.gv_text.specs.Script.{script_limit}
 use Rattle.gv_run.specs.Tied.{Agrees, first_owner, machine_in}
-use Rattle.gv_run.proofs.Left.{LeftOf, left_of}
+use Rattle.gv_run.proofs.Streaming.{Reading}
 use Rattle.gv_run.proofs.script.run_lines.Given as goal
 
-abbrev pub invariant-loop-bytes : goal.invariant-loop-bytes
-invariant-loop-bytes g l =
+abbrev pub invariant-loop-next : goal.invariant-loop-next
+invariant-loop-next g l =
     let now = g.G.Gpu.state l.gpu in
     let start = g.G.Gpu.state l.fn.gpu in
+    let left = g.S.Source.left in
+    let held = g.K.Sink.held in
     record {
       agrees : Agrees now l.run.known l.run.guests.items;
-      left : LeftOf (machine_in start first_owner l.fn.run.guests.items) l.fn.run.report.items start (script_in l.whole l.text)
-          (machine_in now first_owner l.run.guests.items) l.run.report.items now (left_of l.whole l.run.known l.number l.rest);
-      numbered : l.number + length l.rest ≤ length l.text + 1;
+      reading : Reading start (held l.fn.sink) (left l.fn.source) l.reader (left l.source) l.run.known l.number (machine_in now first_owner l.run.guests.items) l.run.report now (held l.sink);
+      numbered : l.number + length l.reader.held ≤ l.reader.taken + 1;
+      within : l.reader.taken ≤ script_limit + 1;
+      limit : l.reader.limit ≡ script_limit;
+      strays : now.strays ≡ start.strays;
+      reads : g.S.Source.faults l.fn.source ≤ g.S.Source.faults l.source;
+      writes : g.K.Sink.faults l.fn.sink ≤ g.K.Sink.faults l.sink;
     }
 
-abbrev pub decreases-loop-bytes : goal.decreases-loop-bytes
-decreases-loop-bytes g l = length l.rest
+abbrev pub decreases-loop-next : goal.decreases-loop-next
+decreases-loop-next g l = l.reader.limit + 1 + length l.reader.held - l.reader.taken

@@ -54,7 +54,7 @@ returns-clause-done g c =
           (made.device mine (idle mine) ∙ ap (new_device c.args.self.now.known.guests c.args.guest.now.frames) next)
           ∙ sym (ap (λ n. m ++ new_device n c.args.guest.now.frames (next_ranges (given_to (ranges_in m)) want) ∷ []) count
           ∙ ap (λ (all : Given). m ++ new_device c.args.self.now.known.guests c.args.guest.now.frames (next_ranges all want) ∷ []) shared);
-      report = said_none c.args.self.now.report.items;
+      report = said_none c.args.self.now.report;
       ran = ran-outside (frames_part _) d e made.outside;
     }
 

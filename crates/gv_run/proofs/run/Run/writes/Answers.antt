@@ -20,9 +20,9 @@ loop-index-preserved g c =
     let start = g.G.Gpu.state c.args.gpu.now in
     let d = g.G.Gpu.state c.loop-index.gpu in
     let e = g.G.Gpu.state c.event.new.gpu in
-    let before = c.args.self.now.report.items in
-    let now = c.loop-index.self.report.items in
-    let later = c.event.new.self.report.items in
+    let before = c.args.self.now.report in
+    let now = c.loop-index.self.report in
+    let later = c.event.new.self.report in
     let all = play input_course (machine_in start first_owner c.args.self.now.guests.items) (writes_of c.args.guest c.args.place c.args.width c.args.at values) in
     let m = machine_in d first_owner c.loop-index.self.guests.items in
     let after = machine_in e first_owner c.event.new.self.guests.items in
@@ -51,7 +51,7 @@ returns-clause-done g c =
     over _ _ (g.G.Gpu.state c.args.gpu.now) c.args.self.now d c.loop-index.self kept.left (ap (λ values. play input_course m (writes_of c.args.guest c.args.place c.args.width at values)) none)
 
 pub returns-clause-part : goal.returns-clause-part
-returns-clause-part g c = left-part _ _ _ _ c.loop-index.self.report.items (g.G.Gpu.state c.loop-index.gpu) c.loop-index.invariant.left
+returns-clause-part g c = left-part _ _ _ _ c.loop-index.self.report (g.G.Gpu.state c.loop-index.gpu) c.loop-index.invariant.left
 
 pub returns-in_err-event-clause-part : goal.returns-in_err-event-clause-part
 returns-in_err-event-clause-part g c =
@@ -61,12 +61,12 @@ returns-in_err-event-clause-part g c =
     let start = g.G.Gpu.state c.args.gpu.now in
     let d = g.G.Gpu.state c.loop-index.gpu in
     let e = g.G.Gpu.state c.event.new.gpu in
-    let now = c.loop-index.self.report.items in
+    let now = c.loop-index.self.report in
     let all = play input_course (machine_in start first_owner c.args.self.now.guests.items) (writes_of c.args.guest c.args.place c.args.width c.args.at values) in
     let m = machine_in d first_owner c.loop-index.self.guests.items in
     let rest = writes_of c.args.guest c.args.place c.args.width (c.args.at + bytes_of c.args.width * (i + 1)) (drop (i + 1) values) in
     let write_at = λ (bytes : ℕ). event (Write c.args.guest c.args.place c.args.width (c.args.at + bytes * i) (get_or values i 0)) in
     let first = input_course m (write_at (bytes_of c.args.width)) in
     let ran = subst (λ b. Ran d e (ran_all (input_course m (write_at b)).came)) c.bytes.ensures c.in_err-event.ensures.ran in
-    let left = subst (λ (x : Course Machine Done). Left all c.args.self.now.report.items start x now d) (write_first c.args.guest c.args.place c.args.width c.args.at values i (omega arith) m) kept.left in
-    stops_within all c.args.self.now.report.items start first (play input_course first.left rest) now d left e (ran-whole ran)
+    let left = subst (λ (x : Course Machine Done). Left all c.args.self.now.report start x now d) (write_first c.args.guest c.args.place c.args.width c.args.at values i (omega arith) m) kept.left in
+    stops_within all c.args.self.now.report start first (play input_course first.left rest) now d left e (ran-whole ran)

@@ -16,5 +16,5 @@ invariant-loop-index g l =
     record {
       agrees : Agrees now l.self.known l.self.guests.items;
       known : l.self.known ≡ l.fn.self.known;
-      left : Left all l.fn.self.report.items start left l.self.report.items now;
+      left : Left all l.fn.self.report start left l.self.report now;
     }
