@@ -8,3 +8,6 @@ mod failing;
 pub use counting::CountingGpu;
 pub use failing::FailingGpu;
 
+
+#[cfg(test)]
+mod tests;
