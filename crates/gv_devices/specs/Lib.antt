@@ -1,0 +1,3 @@
+pub mod Counting
+pub mod Failing
+pub mod Plan

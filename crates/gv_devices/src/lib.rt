@@ -1,0 +1,13 @@
+//! Two devices for tests, each over one in memory: one counts the words that are read of it, and one
+//! fails the calls that it is told to fail.
+#![tactic(auto)]
+
+mod counting;
+mod failing;
+
+pub use counting::CountingGpu;
+pub use failing::FailingGpu;
+
+
+#[cfg(test)]
+mod tests;
