@@ -1,34 +1,25 @@
-ghost use Rattle.std.specs.Prelude.{◌≡◌, ℕ, ◌+◌, ◌*◌, ◌/◌, ◌%◌, ◌^◌, ◌<◌, ◌≤◌, length, slice_index, IfOk, OnOk};
+ghost use Rattle.std.specs.Prelude.{◌≡◌, ◌+◌, ◌-◌, ◌*◌, ◌%◌, ◌^◌, ◌<◌, ◌≤◌, length, replicate, slice_index, slice_set, IfOk, OnOk};
 ghost use Rattle.gv_gpu.specs.Change.{ChangesOnly};
 ghost use Rattle.gv_gpu.specs.Part.{outside, frames_part};
-ghost use Rattle.gv_types.specs.Memory.{memory_read, memory_write, word_of, with_word, zero_memory, bytes_of, all_ones};
+ghost use Rattle.gv_types.specs.Memory.{memory_read, memory_write, zero_memory, bytes_of, all_ones};
 ghost use Rattle.gv_guest.specs.Placed.{Stands, memory_in, nowhere};
 
-use gv_gpu::{Gpu, half, with_half};
-use gv_types::{GuestId, Label, OutOfMemory, Width};
+use crate::frames::Frames;
+use crate::pins::Pins;
+use gv_gpu::Gpu;
+use gv_types::{GuestId, OutOfMemory, Width};
 use std::alloc::Global;
-use std::marker::Model;
 
-/// A guest's frames. A clause sees whose they are, and the host page of each.
+/// A guest's memory: its frames, and how often each is pinned. The parts are borrowed apart, so that code
+/// which pins says by its type that it moves no frame.
 #[derive(Drop)]
 pub struct Memory {
-    guest: GuestId,
-    pages: Vec<u64>,
-}
-
-impl Model for Memory {
-    ghost use Rattle.std.specs.Prelude.{length, ◌≤◌};
-    ghost use Rattle.gv_guest.specs.Placed.{Placed};
-
-    ghost Value = { Placed };
-
-    ghost view = { λ m. record { guest = m.guest.0; pages = m.pages.items } };
-
-    ghost invariant = { λ m. length m.pages.items ≤ 16384 };
+    pub frames: Frames,
+    pub pins: Pins,
 }
 
 impl Memory {
-    /// Zero frames for a guest that has none in the device: 1 to 16,384.
+    /// Zero frames, with no pin, for a guest that has none in the device: 1 to 16,384.
     pub fn new<G: Gpu>(
         alloc: Global,
         gpu: &mut G,
@@ -38,101 +29,80 @@ impl Memory {
         requires few { frames ≤ 16384 }
         requires room { (G.state gpu.old).live + frames ≤ 131072 }
         requires none { Stands (G.state gpu.old) (nowhere guest.0) }
-        ensures guest { IfOk result (λ m. m.guest ≡ guest.0) }
-        ensures stands { IfOk result (λ m. Stands (G.state gpu.new) m) }
-        ensures memory { IfOk result (λ m. memory_in (G.state gpu.new) m ≡ zero_memory frames) }
-        ensures frames { IfOk result (λ m. length m.pages ≡ frames) }
+        ensures guest { IfOk result (λ m. m.frames.guest ≡ guest.0) }
+        ensures stands { IfOk result (λ m. Stands (G.state gpu.new) m.frames) }
+        ensures memory { IfOk result (λ m. memory_in (G.state gpu.new) m.frames ≡ zero_memory frames) }
+        ensures frames { IfOk result (λ m. length m.frames.pages ≡ frames) }
+        ensures pins { IfOk result (λ m. m.pins ≡ replicate frames 0) }
         ensures live { OnOk result ((G.state gpu.new).live ≡ (G.state gpu.old).live + frames) }
         ensures outside { outside (frames_part guest.0) (G.state gpu.new) ≡ outside (frames_part guest.0) (G.state gpu.old) }
     {
-        let mut pages = Vec::with_capacity(alloc, frames as usize)?;
-        for _frame in 0..frames {
-            let page = gpu.add_page(Label {
-                guest,
-                shadow: false,
-            })?;
-            pages.push(page).unwrap();
-        }
-        Ok(Memory { guest, pages })
+        let pins = Pins::new(alloc, frames)?;
+        let frames = Frames::new(alloc, gpu, guest, frames)?;
+        Ok(Memory { frames, pins })
     }
 
     /// The number of frames.
     pub fn frames(&self) -> u32
-        ensures { result ≡ length self.now.pages }
+        ensures { result ≡ length self.now.frames.pages }
     {
-        self.pages.len() as u32
+        self.frames.count()
     }
 
     /// The host page of a frame.
     pub fn page(&self, frame: u32) -> u64
-        requires { frame < length self.now.pages }
-        ensures { result ≡ slice_index self.now.pages frame }
+        requires { frame < length self.now.frames.pages }
+        ensures { result ≡ slice_index self.now.frames.pages frame }
     {
-        self.pages[frame as usize]
-    }
-
-    // The host page of the word with a number, counted over all frames.
-    fn page_of(&self, number: u64) -> u64
-        requires { number < length self.now.pages * 512 }
-        ensures { result ≡ slice_index self.now.pages (number / 512) }
-    {
-        self.pages[(number / 512) as usize]
-    }
-
-    // The word with a number, counted over all frames.
-    fn word<G: Gpu>(&self, gpu: &G, number: u64) -> u64
-        requires stands { Stands (G.state gpu.now) self.now }
-        requires within { number < length self.now.pages * 512 }
-        ensures { result ≡ word_of (memory_in (G.state gpu.now) self.now) number }
-    {
-        let page = self.page_of(number);
-        gpu.word(page, (number % 512) as usize)
-    }
-
-    fn set_word<G: Gpu>(&self, gpu: &mut G, number: u64, value: u64)
-        requires stands { Stands (G.state gpu.old) self.now }
-        requires within { number < length self.now.pages * 512 }
-        ensures memory { memory_in (G.state gpu.new) self.now ≡ with_word (memory_in (G.state gpu.old) self.now) number value }
-        ensures stands { Stands (G.state gpu.new) self.now }
-        ensures changes { ChangesOnly (frames_part self.now.guest) 1 (G.state gpu.old) (G.state gpu.new) }
-    {
-        let page = self.page_of(number);
-        gpu.poke(page, (number % 512) as usize, value)
+        self.frames.page(frame)
     }
 
     /// What an aligned read gives: all ones outside memory.
     pub fn read<G: Gpu>(&self, gpu: &G, at: u64, width: Width) -> u64
-        requires stands { Stands (G.state gpu.now) self.now }
+        requires stands { Stands (G.state gpu.now) self.now.frames }
         requires aligned { at % bytes_of width ≡ 0 }
-        ensures { result ≡ memory_read (memory_in (G.state gpu.now) self.now) width at }
+        ensures { result ≡ memory_read (memory_in (G.state gpu.now) self.now.frames) width at }
     {
-        if at >= u64::from(self.frames()) * 4096 {
-            return width.all_ones();
-        }
-        let word = self.word(gpu, at / 8);
-        match width {
-            Width::Four => u64::from(half(word, at)),
-            Width::Eight => word,
-        }
+        self.frames.read(gpu, at, width)
     }
 
     /// An aligned write, which does nothing outside memory. It pokes one word at the most.
     pub fn write<G: Gpu>(&self, gpu: &mut G, at: u64, width: Width, value: u64)
-        requires stands { Stands (G.state gpu.old) self.now }
+        requires stands { Stands (G.state gpu.old) self.now.frames }
         requires aligned { at % bytes_of width ≡ 0 }
         requires fits { value ≤ all_ones width }
-        ensures memory { memory_in (G.state gpu.new) self.now ≡ memory_write (memory_in (G.state gpu.old) self.now) width at value }
-        ensures stands { Stands (G.state gpu.new) self.now }
-        ensures changes { ChangesOnly (frames_part self.now.guest) 1 (G.state gpu.old) (G.state gpu.new) }
+        ensures memory { memory_in (G.state gpu.new) self.now.frames ≡ memory_write (memory_in (G.state gpu.old) self.now.frames) width at value }
+        ensures stands { Stands (G.state gpu.new) self.now.frames }
+        ensures changes { ChangesOnly (frames_part self.now.frames.guest) 1 (G.state gpu.old) (G.state gpu.new) }
     {
-        if at >= u64::from(self.frames()) * 4096 {
-            return;
-        }
-        let number = at / 8;
-        let word = match width {
-            Width::Four => with_half(self.word(gpu, number), at, value as u32),
-            Width::Eight => value,
-        };
-        self.set_word(gpu, number, word)
+        self.frames.write(gpu, at, width, value)
+    }
+
+    /// The pins of a frame.
+    pub fn pins(&self, frame: u32) -> u32
+        requires within { frame < length self.now.pins }
+        ensures { result ≡ slice_index self.now.pins frame }
+    {
+        self.pins.of(frame)
+    }
+
+    /// One pin more on a frame, which then keeps its host page.
+    pub fn pin(&mut self, frame: u32)
+        requires within { frame < length self.old.pins }
+        requires room { slice_index self.old.pins frame < 2 ^ 32 - 1 }
+        ensures frames { self.new.frames ≡ self.old.frames }
+        ensures pins { self.new.pins ≡ slice_set self.old.pins frame (slice_index self.old.pins frame + 1) }
+    {
+        self.pins.pin(frame);
+    }
+
+    /// One pin less on a frame.
+    pub fn unpin(&mut self, frame: u32)
+        requires within { frame < length self.old.pins }
+        requires some { 1 ≤ slice_index self.old.pins frame }
+        ensures frames { self.new.frames ≡ self.old.frames }
+        ensures pins { self.new.pins ≡ slice_set self.old.pins frame (slice_index self.old.pins frame - 1) }
+    {
+        self.pins.unpin(frame);
     }
 }

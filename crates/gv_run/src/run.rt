@@ -17,7 +17,7 @@ ghost use Rattle.gv_run.specs.Tied.{Ties, first_owner, machine_in};
 
 use crate::machine;
 use gv_gpu::Gpu;
-use gv_guest::Memory;
+use gv_guest::Frames;
 use gv_text::{Ending, Guest, Known, Line, ReportLine, print};
 use gv_types::{Answer, Event, GuestId, OutOfMemory, Place, Reason, Reply, Width};
 use gv_vgpu::Vgpu;
@@ -140,13 +140,13 @@ fn tell_memory<G: Gpu>(
     report: &mut Vec<u8>,
     gpu: &G,
     guest: GuestId,
-    memory: &Memory,
+    memory: &Frames,
 ) -> Result<(), OutOfMemory>
     requires stands { Stands (G.state gpu.now) memory.now }
     requires there { guest.0 < 8 }
     ensures { OnOk result (report.new.items ≡ report.old.items ++ text_of (memory_said guest.0 (memory_in (G.state gpu.now) memory.now))) }
 {
-    for number in 0..u64::from(memory.frames()) * 512 {
+    for number in 0..u64::from(memory.count()) * 512 {
         let value = memory.read(gpu, number * 8, Width::Eight);
         tell_word(report, guest, number * 8, value)?;
     }
@@ -160,7 +160,7 @@ fn tell_memories<G: Gpu>(report: &mut Vec<u8>, gpu: &G, guests: &[Vgpu]) -> Resu
     ensures { OnOk result (report.new.items ≡ report.old.items ++ text_of (memories_said 0 (machine_in (G.state gpu.now) first_owner guests.now))) }
 {
     for (number, guest) in guests.iter().enumerate() {
-        tell_memory(report, gpu, GuestId(number as u8), guest.memory())?;
+        tell_memory(report, gpu, GuestId(number as u8), &guest.memory().frames)?;
     }
     Ok(())
 }

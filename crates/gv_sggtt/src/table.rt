@@ -11,7 +11,7 @@ ghost use Rattle.gv_sggtt.specs.Mirror.{Mirrors, NamesFrame};
 use crate::entries::Entries;
 use gv_entry::global_of;
 use gv_gpu::Gpu;
-use gv_guest::Memory;
+use gv_guest::Frames;
 use gv_types::{OutOfMemory, Ranges, Span};
 use std::alloc::Global;
 use std::marker::Model;
@@ -85,7 +85,7 @@ fn page_at(ranges: &Ranges, place: usize) -> u32
 const ABSENT: u64 = 0;
 
 // The physical entry for a frame, present and writable, or for none, absent.
-fn physical(memory: &Memory, frame: Option<u32>) -> u64
+fn physical(memory: &Frames, frame: Option<u32>) -> u64
     requires there { IfSome frame (λ frame. frame < length memory.now.pages) }
     requires below { IfSome frame (λ frame. slice_index memory.now.pages frame < 131072) }
     ensures { NamesFrame memory.now frame result }
@@ -136,7 +136,7 @@ impl GlobalTable {
 
     /// Sets the guest's entry of a page, and the physical one with it. Does nothing for a page that
     /// isn't the guest's own.
-    pub fn write_entry<G: Gpu>(&mut self, gpu: &mut G, memory: &Memory, page: u32, value: u64)
+    pub fn write_entry<G: Gpu>(&mut self, gpu: &mut G, memory: &Frames, page: u32, value: u64)
         requires stands { Stands (G.state gpu.old) memory.now }
         requires frames { length memory.now.pages ≡ self.old.frames }
         requires mirrors { Mirrors (G.state gpu.old) self.old memory.now }
@@ -153,7 +153,7 @@ impl GlobalTable {
     }
 
     /// Sets every entry to 0, at the cost of those that were written since it last was so.
-    pub fn clear<G: Gpu>(&mut self, gpu: &mut G, memory: &Memory)
+    pub fn clear<G: Gpu>(&mut self, gpu: &mut G, memory: &Frames)
         requires stands { Stands (G.state gpu.old) memory.now }
         requires frames { length memory.now.pages ≡ self.old.frames }
         requires mirrors { Mirrors (G.state gpu.old) self.old memory.now }

@@ -42,11 +42,11 @@ module _ (p : Part) (d e : Device) (none : (k : ℕ) → p.engine k ≡ false) w
 
 -- What changes the guest's frames alone leaves its global table.
 module _ (n : ℕ) (d e : Device) (v : Vgpu) (changes : ChangesOnly (frames_part (number_of v)) n d e) where
-  pub tables-written : HoldsTables d v → Stands e v.memory → HoldsTables e v
+  pub tables-written : HoldsTables d v → Stands e v.memory.frames → HoldsTables e v
   tables-written holds stands = record {
     stands = stands;
     frames = holds.frames;
-    mirrors = mirrors-kept (entries_part (ranges_of v)) d e (ranges_of v) (λ page own. own) (leaves (apart-frames-entries (number_of v) (ranges_of v)) changes) v.table v.memory refl holds.mirrors;
+    mirrors = mirrors-kept (entries_part (ranges_of v)) d e (ranges_of v) (λ page own. own) (leaves (apart-frames-entries (number_of v) (ranges_of v)) changes) v.table v.memory.frames refl holds.mirrors;
     parts = holds.parts;
     number = holds.number;
     ranges = holds.ranges;
@@ -77,9 +77,9 @@ module _ (w : Part) (d e : Device) (v : Vgpu) (here : ℕ → Bool) (covers : Co
   pub holds-kept : Holds d v here → Holds e v here
   holds-kept holds = record {
     tables = record {
-      stands = stands-kept w d e v.memory covers.frames left holds.tables.stands;
+      stands = stands-kept w d e v.memory.frames covers.frames left holds.tables.stands;
       frames = holds.tables.frames;
-      mirrors = mirrors-kept w d e (ranges_of v) covers.entries left v.table v.memory refl holds.tables.mirrors;
+      mirrors = mirrors-kept w d e (ranges_of v) covers.entries left v.table v.memory.frames refl holds.tables.mirrors;
       parts = holds.tables.parts;
       number = holds.tables.number;
       ranges = holds.tables.ranges;
@@ -98,7 +98,7 @@ module _ (w : Part) (d e : Device) (v : Vgpu) (here : ℕ → Bool) (covers : Co
       at k false own = refl
 
   pub private-kept : Holds d v here → private_of e v here ≡ private_of d v here
-  private-kept holds = λ i. record (private_of d v here) { memory = memory-kept w d e v.memory covers.frames left holds.tables.stands i; general = general_kept i }
+  private-kept holds = λ i. record (private_of d v here) { memory = memory-kept w d e v.memory.frames covers.frames left holds.tables.stands i; general = general_kept i }
 
 -- what of a guest's part no other guest changes covers all this
 pub standing-covers : (v : Vgpu) (here : ℕ → Bool) → Covers (standing_part (number_of v) (ranges_of v) here) v here

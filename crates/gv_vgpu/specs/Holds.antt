@@ -12,13 +12,13 @@ use Rattle.gv_vgpu.specs.Device.{PrivateDevice, zero_registers}
 use Rattle.gv_vgpu.specs.declared.vgpu.Vgpu.{Vgpu}
 
 abbrev pub number_of : Vgpu → ℕ
-number_of v = v.memory.guest
+number_of v = v.memory.frames.guest
 
 abbrev pub ranges_of : Vgpu → Ranges
 ranges_of v = v.table.ranges
 
 abbrev pub memory_of : Vgpu → Placed
-memory_of v = v.memory
+memory_of v = v.memory.frames
 
 -- The engines that a guest owns have no context loaded, and no general register of theirs was written.
 pub record AreIdle (d : Device) (here : ℕ → Bool) : Type 0 where
@@ -27,11 +27,11 @@ pub record AreIdle (d : Device) (here : ℕ → Bool) : Type 0 where
 
 -- The guest's memory stands, and the physical entries of its ranges are those of its table.
 pub record HoldsTables (d : Device) (v : Vgpu) : Type 0 where
-  pub stands : Stands d v.memory
-  pub frames : length v.memory.pages ≡ v.table.frames
-  pub mirrors : Mirrors d v.table v.memory
+  pub stands : Stands d v.memory.frames
+  pub frames : length v.memory.frames.pages ≡ v.table.frames
+  pub mirrors : Mirrors d v.table v.memory.frames
   pub parts : InParts v.table.ranges
-  pub number : v.registers.guest ≡ v.memory.guest
+  pub number : v.registers.guest ≡ v.memory.frames.guest
   pub ranges : v.registers.ranges ≡ v.table.ranges
 
 -- And the engines that the guest owns are idle, since it has no element at work.
@@ -46,9 +46,9 @@ general_of d here e = if here e then d.general e else zero_registers
 -- the private device that a guest's device stands for, by the engines that the guest owns
 abbrev pub private_of : Device → Vgpu → (ℕ → Bool) → PrivateDevice
 private_of d v here = record {
-  number = v.memory.guest;
+  number = v.memory.frames.guest;
   ranges = v.table.ranges;
-  memory = memory_in d v.memory;
+  memory = memory_in d v.memory.frames;
   entries = v.table.entries;
   registers = map_of v.registers;
   interrupts = v.interrupts;

@@ -68,7 +68,7 @@ impl Vgpu {
 
     /// The guest's memory.
     pub fn memory(&self) -> &Memory
-        ensures { result.now ≡ memory_of self.now }
+        ensures { result.now.frames ≡ memory_of self.now }
     {
         &self.memory
     }
@@ -155,11 +155,12 @@ impl Vgpu {
             Width::Four => with_half(self.table.entry(page), offset, value as u32),
             Width::Eight => value,
         };
-        self.table.write_entry(gpu, &self.memory, page, entry)
+        self.table
+            .write_entry(gpu, &self.memory.frames, page, entry)
     }
 
     fn read_dword(&self, offset: u32) -> u32
-        requires number { self.now.registers.guest ≡ self.now.memory.guest }
+        requires number { self.now.registers.guest ≡ self.now.memory.frames.guest }
         requires ranges { self.now.registers.ranges ≡ self.now.table.ranges }
         ensures { (d : Device) → result ≡ dword_read (idle_device d self.now) offset }
     {
@@ -211,7 +212,7 @@ impl Vgpu {
 
     // One dword of the registers, or two.
     fn read_dwords(&self, width: Width, offset: u32) -> u64
-        requires number { self.now.registers.guest ≡ self.now.memory.guest }
+        requires number { self.now.registers.guest ≡ self.now.memory.frames.guest }
         requires ranges { self.now.registers.ranges ≡ self.now.table.ranges }
         requires below { offset < table_at }
         ensures { (d : Device) → result ≡ dwords_read (idle_device d self.now) width offset }
@@ -243,7 +244,7 @@ impl Vgpu {
 
     // A read of the register range: of the registers, or behind them of the global table.
     fn read_range(&self, width: Width, offset: u64) -> u64
-        requires number { self.now.registers.guest ≡ self.now.memory.guest }
+        requires number { self.now.registers.guest ≡ self.now.memory.frames.guest }
         requires ranges { self.now.registers.ranges ≡ self.now.table.ranges }
         requires below { offset < 0x1000000 }
         ensures { (d : Device) → result ≡ range_read (idle_device d self.now) width offset }
@@ -378,7 +379,7 @@ impl Vgpu {
         ensures guest { SameGuest self.old self.new }
         ensures changes { ChangesOnly (entries_part (ranges_of self.old)) 0 (G.state gpu.old) (G.state gpu.new) }
     {
-        self.table.clear(gpu, &self.memory);
+        self.table.clear(gpu, &self.memory.frames);
         self.registers.reset();
         self.interrupts.reset();
     }

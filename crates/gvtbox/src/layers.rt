@@ -21,9 +21,9 @@ const RANGES: Ranges = Ranges {
 };
 
 fn guest(alloc: Global) -> Result<(SoftGpu, Memory, GlobalTable), OutOfMemory>
-    ensures stands { IfOk result (λ made. Stands (⟦<SoftGpu as Gpu>⟧.state made.0) made.1) }
-    ensures frames { IfOk result (λ made. length made.1.pages ≡ made.2.frames) }
-    ensures mirrors { IfOk result (λ made. Mirrors (⟦<SoftGpu as Gpu>⟧.state made.0) made.2 made.1) }
+    ensures stands { IfOk result (λ made. Stands (⟦<SoftGpu as Gpu>⟧.state made.0) made.1.frames) }
+    ensures frames { IfOk result (λ made. length made.1.frames.pages ≡ made.2.frames) }
+    ensures mirrors { IfOk result (λ made. Mirrors (⟦<SoftGpu as Gpu>⟧.state made.0) made.2 made.1.frames) }
 {
     let mut gpu = SoftGpu::new(alloc);
     let memory = Memory::new(alloc, &mut gpu, GuestId(0), 2)?;
@@ -34,9 +34,9 @@ fn guest(alloc: Global) -> Result<(SoftGpu, Memory, GlobalTable), OutOfMemory>
 #[test]
 fn entries_of_two_ranges(rt: HostRuntime) -> Result<(), Fail> {
     let (mut gpu, memory, mut table) = guest(rt.alloc())?;
-    table.write_entry(&mut gpu, &memory, 3, 0x1001);
-    table.write_entry(&mut gpu, &memory, 5, 0x1001);
-    table.write_entry(&mut gpu, &memory, 65_536, 0x2001);
+    table.write_entry(&mut gpu, &memory.frames, 3, 0x1001);
+    table.write_entry(&mut gpu, &memory.frames, 5, 0x1001);
+    table.write_entry(&mut gpu, &memory.frames, 65_536, 0x2001);
     for (page, entry, frame) in [
         (3, 0, None),
         (4, 0, None),
@@ -47,7 +47,7 @@ fn entries_of_two_ranges(rt: HostRuntime) -> Result<(), Fail> {
         assert_eq!(rt; table.entry(page), entry);
         assert_eq!(rt; table.granted(page), frame);
     }
-    table.clear(&mut gpu, &memory);
+    table.clear(&mut gpu, &memory.frames);
     assert_eq!(rt; table.entry(5), 0);
     Ok(())
 }

@@ -22,4 +22,4 @@ mirrors-at-first d e guest ranges frames placed t is empty same =
     subst (λ (t : Table). Mirrors e t placed) (sym is) (mirrors-zero e ranges frames placed (absent-at-first d e guest ranges empty same))
 
 pub returns-clause-mirrors : goal.returns-clause-mirrors
-returns-clause-mirrors c = mirrors-at-first (whole c.new-gpu.result) (whole c.new.new.gpu) 0 _ _ c.in_ok-memory.memory c.in_ok-table.table c.in_ok-table.ensures c.new-gpu.ensures c.in_ok-memory.ensures.outside
+returns-clause-mirrors c = mirrors-at-first (whole c.new-gpu.result) (whole c.new.new.gpu) 0 _ _ c.in_ok-memory.memory.frames c.in_ok-table.table c.in_ok-table.ensures c.new-gpu.ensures c.in_ok-memory.ensures.outside

@@ -2,7 +2,7 @@ use Rattle.std.proofs.Common.{◌≡◌, ◌+◌, ◌≤◌, vec_len, vec_capaci
 use Rattle.gv_types.specs.Memory.{zero_memory}
 use Rattle.gv_gpu.specs.Part.{outside, frames_part}
 use Rattle.gv_guest.specs.Placed.{Placed, Stands, memory_in}
-use Rattle.gv_guest.proofs.memory.Memory.new.Given as goal
+use Rattle.gv_guest.proofs.frames.Frames.new.Given as goal
 
 abbrev pub invariant-loop-frame : goal.invariant-loop-frame
 invariant-loop-frame g l =

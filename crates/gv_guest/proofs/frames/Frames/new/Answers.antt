@@ -3,7 +3,7 @@ use Rattle.std.proofs.lemmas.List.{replicate_more}
 use Rattle.gv_types.specs.Memory.{zero_words}
 use Rattle.gv_guest.specs.Placed.{Placed}
 use Rattle.gv_guest.proofs.Added.{stands-added, memory-added, frames-added}
-use Rattle.gv_guest.proofs.memory.Memory.new.Goals as goal
+use Rattle.gv_guest.proofs.frames.Frames.new.Goals as goal
 
 pub loop-frame-preserved : goal.loop-frame-preserved
 loop-frame-preserved g c =

@@ -1,5 +1,5 @@
 use Rattle.gv_guest.proofs.Written.{memory-poked, frames-poked}
-use Rattle.gv_guest.proofs.memory.Memory.set_word.Goals as goal
+use Rattle.gv_guest.proofs.frames.Frames.set_word.Goals as goal
 
 pub returns-clause-memory : goal.returns-clause-memory
 returns-clause-memory g c =
