@@ -11,11 +11,11 @@ ghost use Rattle.gv_sppgtt.specs.Grown.{Made, Held, Growing, Filled, Modest};
 ghost use Rattle.gv_sppgtt.specs.State.{pages_of, parents_of, readings_of, sketch_of, IsSound};
 ghost use Rattle.gv_sppgtt.specs.Holding.{Holds, Keeps};
 
+use crate::Tables;
 use crate::tables::{Child, TableFault, Word};
-use crate::{Pins, Tables};
 use gv_entry::{Process, process_of};
 use gv_gpu::Gpu;
-use gv_guest::Memory as Frames;
+use gv_guest::{Frames, Pins};
 use gv_types::{Label, OutOfMemory, Width};
 
 impl Tables {
@@ -207,7 +207,7 @@ impl Tables {
         ensures { result ≡ entry_of (memory_in (G.state gpu.now) frames.now) level frame index }
     {
         let at = u64::from(frame) * 4096 + u64::from(index) * 8;
-        process_of(frames.read(gpu, at, Width::Eight), level, frames.frames())
+        process_of(frames.read(gpu, at, Width::Eight), level, frames.count())
     }
 
     // What a word of a node is to stand for.

@@ -4,10 +4,10 @@ ghost use Rattle.gv_guest.specs.Placed.{memory_in};
 ghost use Rattle.gv_sppgtt.specs.State.{readings_of, shadow_part};
 ghost use Rattle.gv_sppgtt.specs.Holding.{Holds};
 
+use crate::Tables;
 use crate::tables::leaf_word;
-use crate::{Pins, Tables};
 use gv_gpu::Gpu;
-use gv_guest::Memory as Frames;
+use gv_guest::{Frames, Pins};
 
 impl Tables {
     // A frame becomes guarded or unguarded: its leaves are writable where the guest's entries have it, unless it is guarded.

@@ -7,11 +7,9 @@
 
 mod grow;
 mod guard;
-mod pins;
 mod relink;
 mod shrink;
 mod tables;
 mod update;
 
-pub use pins::Pins;
 pub use tables::Tables;

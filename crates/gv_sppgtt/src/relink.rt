@@ -10,10 +10,10 @@ ghost use Rattle.gv_sppgtt.specs.Grown.{Modest, Rests, Acquired, Released};
 ghost use Rattle.gv_sppgtt.specs.State.{pages_of, parents_of, readings_of, sketch_of};
 ghost use Rattle.gv_sppgtt.specs.Holding.{Holds, Keeps};
 
+use crate::Tables;
 use crate::tables::{Child, TableFault, Word};
-use crate::{Pins, Tables};
 use gv_gpu::Gpu;
-use gv_guest::Memory as Frames;
+use gv_guest::{Frames, Pins};
 
 impl Tables {
     // Acquires the table that the guest's entry names, if it names one.

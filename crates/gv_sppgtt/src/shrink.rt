@@ -10,10 +10,10 @@ ghost use Rattle.gv_sppgtt.specs.Grown.{Dropped, Emptying, Emptied};
 ghost use Rattle.gv_sppgtt.specs.State.{pages_of, parents_of, readings_of, sketch_of};
 ghost use Rattle.gv_sppgtt.specs.Holding.{Holds, Keeps};
 
+use crate::Tables;
 use crate::grow::split_level;
-use crate::{Pins, Tables};
 use gv_gpu::Gpu;
-use gv_guest::Memory as Frames;
+use gv_guest::{Frames, Pins};
 
 impl Tables {
     // Takes a parent from the node of a frame at a level, and answers its page where that was the last.

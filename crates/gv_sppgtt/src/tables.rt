@@ -10,9 +10,8 @@ ghost use Rattle.gv_guest.specs.Placed.{Stands};
 ghost use Rattle.gv_sppgtt.specs.Sound.{decode, flag, leaf_of, leaf_entry, place_leaf, IsLinked, Enters};
 ghost use Rattle.gv_sppgtt.specs.State.{pages_of, readings_of, IsSound, IsPinned};
 
-use crate::Pins;
 use gv_gpu::Gpu;
-use gv_guest::Memory as Frames;
+use gv_guest::{Frames, Pins};
 use gv_nodes::Nodes;
 use gv_rmap::{Chains, Leaf};
 use gv_types::{GuestId, OutOfMemory};

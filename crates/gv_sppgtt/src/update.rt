@@ -8,11 +8,11 @@ ghost use Rattle.gv_sppgtt.specs.Grown.{Rests};
 ghost use Rattle.gv_sppgtt.specs.State.{pages_of, parents_of, readings_of, sketch_of};
 ghost use Rattle.gv_sppgtt.specs.Holding.{Holds, Keeps};
 
+use crate::Tables;
 use crate::tables::TableFault;
-use crate::{Pins, Tables};
 use gv_entry::Process;
 use gv_gpu::Gpu;
-use gv_guest::Memory as Frames;
+use gv_guest::{Frames, Pins};
 use gv_types::OutOfMemory;
 
 impl Tables {
