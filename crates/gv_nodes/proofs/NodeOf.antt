@@ -24,7 +24,7 @@ is_of-parts level frame node h = let both = and_parts (eqb node.level level) (eq
 is_of-from : (level frame : ℕ) (node : Node) → node.level ≡ level → node.frame ≡ frame → is_of level frame node ≡ true
 is_of-from level frame node l f = and_from (eqb node.level level) (eqb node.frame frame) (eq-eqb _ _ l) (eq-eqb _ _ f)
 
-same_number : (q k : ℕ) → eq_by_cmp nat_cmp q k ≡ true → q ≡ k
+pub same_number : (q k : ℕ) → eq_by_cmp nat_cmp q k ≡ true → q ≡ k
 same_number q k h = nat_cmp-IsAntisymmetric q k (equal (nat_cmp q k) h)
   where
     equal : (o : _) → is_eq o ≡ true → o ≡ Equal

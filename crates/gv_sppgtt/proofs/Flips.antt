@@ -17,10 +17,11 @@ use Rattle.gv_shape.specs.Shadow.{Pages, Names, Local, leaf_word, has_leaves}
 use Rattle.gv_shape.specs.Shadow.{Readings}
 use Rattle.gv_sppgtt.specs.Sound.{reading_at, readings_in, Boarded, Chained, Counted, Pinned, flag}
 use Rattle.gv_sppgtt.specs.State.{parents_of}
-use Rattle.gv_sppgtt.specs.State.{pages_of, readings_of, shadow_part}
+use Rattle.gv_sppgtt.specs.State.{own_in, own_part, pages_of, readings_of, shadow_part}
 use Rattle.gv_sppgtt.specs.Holding.{Holds}
 use Rattle.gv_sppgtt.specs.declared.tables.Tables.{Tables}
 use Rattle.gv_sppgtt.proofs.Flipped.{Guards, LocalBy, with_guard, names-guards, local-flipped, flipped-readings}
+use Rattle.gv_sppgtt.proofs.OwnPages.{own-poked, page-own}
 use Rattle.gv_sppgtt.proofs.Outside.{shadow-poked, stands-shadow, memory-shadow}
 
 abbrev pub guards_after : List Bool → ℕ → Bool → List Leaf → Guards
@@ -31,6 +32,7 @@ pub record Flipping (start now : Device) (placed : Placed) (t : Tables) (frame :
   pub boarded : Boarded now (length placed.pages) (pages_of t) t.owners.items
   pub local : LocalBy now placed (pages_of t) (guards_after t.told.items frame new done) (readings_of now t)
   pub readings : (k f i : ℕ) → readings_of now t k f i ≡ readings_of start t k f i
+  pub own : outside (own_part placed.guest t) now ≡ outside (own_part placed.guest t) start
   pub outside : outside (shadow_part placed.guest) now ≡ outside (shadow_part placed.guest) start
   pub live : now.live ≡ start.live
 
@@ -120,6 +122,7 @@ module _ (start now : Device) (placed : Placed) (t : Tables) (pins : List ℕ) (
           (local-flipped now placed (length placed.pages) (pages_of t) (guards_after t.told.items frame new done) t.owners.items g.boarded g.local known.0 known.2.0 known.1 leaf.page leaf.index frame leaf.writable new known.2.1.0 known.2.1.1.0 reads);
       readings = λ k f i. same_words k f i ∙ g.readings k f i;
       outside = shadow-poked now placed.guest leaf.page leaf.index (leaf_word (get_or placed.pages frame 0) leaf.writable new) (g.local.labelled known.0 known.1 leaf.page known.2.1.0) ∙ g.outside;
+      own = own-poked placed.guest (own_in t.nodes) now leaf.page leaf.index (leaf_word (get_or placed.pages frame 0) leaf.writable new) (g.local.labelled known.0 known.1 leaf.page known.2.1.0) (page-own t.nodes known.0 known.1 leaf.page known.2.1.0) ∙ g.own;
       live = g.live;
     }
       where

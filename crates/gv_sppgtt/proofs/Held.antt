@@ -14,6 +14,7 @@ use Rattle.gv_sppgtt.specs.Grown.{Sketch, one_at, Growing}
 use Rattle.gv_sppgtt.specs.State.{pages_of, parents_of, sketch_of}
 use Rattle.gv_sppgtt.specs.Holding.{Holds, Keeps}
 use Rattle.gv_sppgtt.specs.declared.tables.Tables.{Tables}
+use Rattle.gv_sppgtt.proofs.Kept.{keeps-nodes}
 use Rattle.gv_sppgtt.proofs.SameNodes.{sound-same, pinned-same, room-same}
 
 at_pair : (level frame k f : ℕ) → k ≡ level → f ≡ frame → one_at level frame k f ≡ 1
@@ -56,8 +57,8 @@ module _ (d : Device) (placed : Placed) (t u : Tables) (pins : List ℕ) (level 
     room = room-same d placed t.nodes u.nodes t.chains t.owners.items t.told.items frames same_pages h.room;
   }
 
-  pub keeps-held : Keeps placed d d t u
-  keeps-held = record { memory = refl; outside = refl; guest = guest; told = told }
+  pub keeps-held : u.touched ≡ t.touched → Keeps placed d d t u pins pins
+  keeps-held touched = keeps-nodes placed d t u pins h.nodes nodes pages owners guest told touched
 
   pub growing-held : (m : Memory) → Growing (length placed.pages) m level frame 512 (sketch_of d t) (sketch_of d u)
   growing-held m = record {

@@ -12,6 +12,7 @@ use Rattle.gv_sppgtt.specs.State.{pages_of, parents_of, readings_of, sketch_of}
 use Rattle.gv_sppgtt.specs.Grown.{Emptying}
 use Rattle.gv_sppgtt.specs.Holding.{Holds, Keeps}
 use Rattle.gv_sppgtt.specs.declared.tables.Tables.{Tables}
+use Rattle.gv_sppgtt.proofs.Kept.{keeps-nodes}
 use Rattle.gv_sppgtt.proofs.SameNodes.{pinned-same, room-same}
 
 module _ (d : Device) (placed : Placed) (t u : Tables) (pins : List ℕ) (level frame : ℕ) (h : Holds d placed t pins)
@@ -55,3 +56,6 @@ module _ (d : Device) (placed : Placed) (t u : Tables) (pins : List ℕ) (level 
     nodes = nodes;
     room = room-same d placed t.nodes u.nodes t.chains t.owners.items t.told.items frames same_pages h.room;
   }
+
+  pub keeps-less : u.touched ≡ t.touched → Keeps placed d d t u pins pins
+  keeps-less touched = keeps-nodes placed d t u pins h.nodes nodes pages owners guest told touched

@@ -1,13 +1,14 @@
 -- A node is made, seen by all that is known of the tables.
-use Rattle.std.proofs.Common.{List, ℕ, ◌≡◌, ◌+◌, ◌*◌, ◌≤◌, ◌<◌, Some, None, [], length, set, sym, ap, ◌∙◌, subst, refl, arith}
+use Rattle.std.proofs.Common.{List, ℕ, ◌≡◌, ◌+◌, ◌*◌, ◌/◌, ◌≤◌, ◌<◌, true, false, Some, None, [], length, get_or, set, sym, ap, ◌∙◌, subst, refl, arith, ⊎_elim}
+use Rattle.std.proofs.lemmas.Bool.{cases_eq, false≢true}
 use Rattle.gv_gpu.specs.Device.{Device, added}
 use Rattle.gv_gpu.specs.Part.{outside}
 use Rattle.gv_guest.specs.Placed.{Placed}
 use Rattle.gv_nodes.specs.NodeMap.{NodeMap, AreNodes, reserved}
 use Rattle.gv_shape.specs.Shadow.{Pages, shadow_label}
-use Rattle.gv_shape.specs.Counts.{uses, maps}
+use Rattle.gv_shape.specs.Counts.{uses, leaves, maps}
 use Rattle.gv_sppgtt.specs.Sound.{pages_in, parents_in, page_of_node, parents_of_node, readings_in, Pinned, IsWhole}
-use Rattle.gv_sppgtt.specs.State.{pages_of, parents_of, sketch_of, shadow_part}
+use Rattle.gv_sppgtt.specs.State.{Touches, own_in, pages_of, parents_of, readings_of, sketch_of, shadow_part}
 use Rattle.gv_sppgtt.specs.Grown.{Made, count_of}
 use Rattle.gv_sppgtt.specs.Holding.{Holds, Keeps}
 use Rattle.gv_sppgtt.specs.declared.tables.Tables.{Tables}
@@ -15,6 +16,8 @@ use Rattle.gv_sppgtt.proofs.NodePairs.{are_reserved, node_of-reserved}
 use Rattle.gv_sppgtt.proofs.SameNodes.{label-is, sound-same, pinned-same, room-same}
 use Rattle.gv_sppgtt.proofs.Room.{count-made}
 use Rattle.gv_sppgtt.proofs.Outside.{stands-shadow, memory-shadow, shadow-added}
+use Rattle.gv_sppgtt.proofs.Kept.{is_table-same}
+use Rattle.gv_sppgtt.proofs.OwnPages.{own-here, own-others, own-added}
 use Rattle.gv_sppgtt.proofs.MakeNode.{made-sketch, sound-made, made-uses}
 
 pub same-pages : (s r : NodeMap) → r ≡ reserved s 1 → pages_in r ≡ pages_in s
@@ -88,5 +91,24 @@ module _ (d : Device) (placed : Placed) (t u : Tables) (pins : List ℕ) (r : No
         omega arith;
   }
 
-  pub keeps-made : Keeps placed d after t u
-  keeps-made = record { memory = memory-shadow d after placed outside_same h.stands; outside = outside_same; guest = guest; told = told }
+  pub keeps-made : Touches frame t.touched u.touched → Keeps placed d after t u pins pins
+  keeps-made touches = record {
+    memory = memory-shadow d after placed outside_same h.stands;
+    outside = own-added placed.guest (own_in t.nodes) (own_in u.nodes) d page free empty (own-here t.nodes u.nodes h.nodes nodes level frame page here absent others')
+        (own-others t.nodes u.nodes h.nodes nodes level frame page here absent others');
+    guest = guest;
+    told = told;
+    pins = λ q.
+        let used = made-uses d placed r u.nodes t.chains t.owners.items t.told.items h.stands with_r.sound level frame page low one four whole none below free frames here parent others parents in
+        let old : leaves (length placed.pages) (readings_in d.words t.owners.items (pages_in r)) q ≡ leaves (length placed.pages) (readings_of d t) q = ap (λ (P : Pages). leaves (length placed.pages) (readings_in d.words t.owners.items P) q) (same-pages t.nodes r is) in
+        let a = used 1 (maps q) in
+        let b = used 5 (maps q) in
+        let c = used 6 (maps q) in
+        let new : leaves (length placed.pages) (readings_of after u) q ≡ leaves (length placed.pages) (readings_in after.words (set t.owners.items page frame) (pages_of u)) q = ap (λ (own : List ℕ). leaves (length placed.pages) (readings_in after.words own (pages_of u)) q) owners in
+        omega arith;
+    blocks = touches.kept;
+    tables = λ f is. ⊎_elim
+        (λ same. let clash : true ≡ false = sym touches.here ∙ ap (λ x. get_or u.touched (x / 128) false) (sym same) ∙ is in absurd (false≢true (sym clash)))
+        (λ other. is_table-same (pages_of u) (pages_of t) f (λ k. others' k f (λ _ e. other e)))
+        (cases_eq f frame);
+  }

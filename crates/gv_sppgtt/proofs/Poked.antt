@@ -6,14 +6,15 @@ use Rattle.gv_types.specs.declared.event.Width.TheVariants.{Eight}
 use Rattle.gv_entry.specs.Tables.{words_of}
 use Rattle.gv_entry.specs.declared.process.Process.{Process}
 use Rattle.gv_gpu.specs.Device.{Device, poked}
-use Rattle.gv_gpu.specs.Part.{outside}
+use Rattle.gv_gpu.specs.Part.{outside, tables_part}
+use Rattle.gv_sppgtt.proofs.OwnPages.{own-poked, page-own}
 use Rattle.gv_guest.specs.Placed.{Placed}
 use Rattle.gv_nodes.specs.NodeMap.{NodeMap, AreNodes}
 use Rattle.gv_shape.specs.Shadow.{Pages}
-use Rattle.gv_shape.specs.Counts.{uses, maps, namings}
+use Rattle.gv_shape.specs.Counts.{uses, leaves, maps, namings}
 use Rattle.gv_sppgtt.specs.Sound.{Sound, Pinned, Enters, pages_in}
 use Rattle.gv_sppgtt.specs.Grown.{count_of}
-use Rattle.gv_sppgtt.specs.State.{pages_of, readings_of, IsSound, IsPinned, shadow_part}
+use Rattle.gv_sppgtt.specs.State.{own_in, own_part, is_table, pages_of, readings_of, IsSound, IsPinned, shadow_part}
 use Rattle.gv_sppgtt.specs.Holding.{Holds, Keeps}
 use Rattle.gv_sppgtt.specs.declared.tables.Tables.{Tables}
 use Rattle.gv_sppgtt.proofs.Entered.{uses-other}
@@ -38,8 +39,26 @@ module _ (d e : Device) (placed : Placed) (t u : Tables) (pins : List ℕ) (leve
         subst (λ (n : NodeMap). e.live + (4 * length placed.pages + 64) ≤ 131072 + count_of (length placed.pages) (pages_in n)) (sym nodes) (omega arith);
   }
 
-  pub keeps-poked : Keeps placed d e t u
-  keeps-poked = record { memory = memory-shadow d e placed outside_same h.stands; outside = outside_same; guest = guest; told = told }
+  pub keeps-poked : (moved : List ℕ) → ((q : ℕ) → get_or moved q 0 + leaves (length placed.pages) (readings_of d t) q ≡ get_or pins q 0 + leaves (length placed.pages) (readings_of e u) q) → u.touched ≡ t.touched → Keeps placed d e t u pins moved
+  keeps-poked moved exact touched = record {
+    memory = memory-shadow d e placed outside_same h.stands;
+    outside = ap (λ (n : NodeMap). outside (tables_part placed.guest (own_in n)) e) nodes ∙ ap (outside (own_part placed.guest t)) step
+        ∙ own-poked placed.guest (own_in t.nodes) d page index value (h.sound.local.labelled level frame page node) (page-own t.nodes level frame page node);
+    guest = guest;
+    told = told;
+    pins = exact;
+    blocks = λ b is. ap (λ (l : List Bool). get_or l b false) (sym touched) ∙ is;
+    tables = λ f is. ap (λ (n : NodeMap). is_table (pages_in n) f) nodes;
+  }
+
+-- a word of a table above maps no frame, so no pin moves
+pub leaves-above : (d e : Device) (placed : Placed) (t u : Tables) (pins : List ℕ) (level frame index : ℕ) (p : Process) → 2 ≤ level → level ≤ 4 → frame < length placed.pages → index < 512 → Enters (readings_of d t) (readings_of e u) level frame index p
+    → (h : ℕ) → get_or pins h 0 + leaves (length placed.pages) (readings_of d t) h ≡ get_or pins h 0 + leaves (length placed.pages) (readings_of e u) h
+leaves-above d e placed t u pins level frame index p high few low within entered h =
+    let one = uses-other (length placed.pages) (readings_of d t) (readings_of e u) level frame index p entered low within (maps h) 1 (λ is. let x = is in omega arith) in
+    let five = uses-other (length placed.pages) (readings_of d t) (readings_of e u) level frame index p entered low within (maps h) 5 (λ is. let x = is in omega arith) in
+    let six = uses-other (length placed.pages) (readings_of d t) (readings_of e u) level frame index p entered low within (maps h) 6 (λ is. let x = is in omega arith) in
+    omega arith
 
 -- a word of a table above maps no frame
 pub pinned-above : (d e : Device) (placed : Placed) (t u : Tables) (pins : List ℕ) (level frame index : ℕ) (p : Process) → IsPinned d placed t pins → 2 ≤ level → level ≤ 4 → frame < length placed.pages → index < 512 → Enters (readings_of d t) (readings_of e u) level frame index p → IsPinned e placed u pins

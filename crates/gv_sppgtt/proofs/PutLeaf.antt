@@ -147,6 +147,18 @@ module _ (d : Device) (placed : Placed) (nodes : NodeMap) (chains : ReverseMap) 
       counted = λ k f some. rw (same_namings k f some) (sound.counted k f some);
     }
 
+    -- the pins move with the leaves
+    pub leaf-exact : (pins between new : List ℕ)
+        → ((h : ℕ) → get_or between h 0 + one_if (maps h (readings level table index)) ≡ get_or pins h 0)
+        → ((h : ℕ) → get_or new h 0 ≡ get_or between h 0 + one_if (maps h e))
+        → (h : ℕ) → get_or new h 0 + leaves (length placed.pages) readings h ≡ get_or pins h 0 + leaves (length placed.pages) (readings_in written.words owned (pages_in nodes)) h
+    leaf-exact pins between new took put h =
+        let low' = sound.boarded.low level table page node in
+        let change = leaves-entered (length placed.pages) readings (readings_in written.words owned (pages_in nodes)) level table index e leaf-enters leafy low'.1.1 low'.0 within h in
+        let first = took h in
+        let second = put h in
+        omega arith
+
     pub leaf-pinned : (pins between new : List ℕ) → Pinned (length placed.pages) pins readings
         → ((h : ℕ) → get_or between h 0 + one_if (maps h (readings level table index)) ≡ get_or pins h 0)
         → ((h : ℕ) → get_or new h 0 ≡ get_or between h 0 + one_if (maps h e))

@@ -1,18 +1,21 @@
 -- A node and its page are taken out: what is known of the tables.
-use Rattle.std.proofs.Common.{ℕ, ◌+◌, ◌*◌, ◌-◌, ◌≤◌, ◌<◌, ◌≡◌, List, Option, None, Some, length, refl, sym, ap, ◌∙◌, subst, arith}
+use Rattle.std.proofs.Common.{ℕ, ◌+◌, ◌*◌, ◌-◌, ◌/◌, ◌≤◌, ◌<◌, ◌≡◌, true, false, List, Option, None, Some, length, get_or, refl, sym, ap, ◌∙◌, subst, arith, ⊎_elim}
+use Rattle.std.proofs.lemmas.Bool.{cases_eq, false≢true}
 use Rattle.gv_entry.specs.declared.process.Process.TheVariants.{Absent}
 use Rattle.gv_entry.specs.Tables.{names}
 use Rattle.gv_gpu.specs.Device.{Device, released}
 use Rattle.gv_gpu.specs.Part.{outside}
 use Rattle.gv_guest.specs.Placed.{Placed}
 use Rattle.gv_nodes.specs.NodeMap.{AreNodes}
-use Rattle.gv_shape.specs.Counts.{uses, maps, namings}
+use Rattle.gv_shape.specs.Counts.{uses, leaves, maps, namings}
 use Rattle.gv_sppgtt.specs.Sound.{Sound, readings_in}
-use Rattle.gv_sppgtt.specs.State.{pages_of, parents_of, readings_of, shadow_part}
+use Rattle.gv_sppgtt.specs.State.{Touches, own_in, pages_of, parents_of, readings_of, shadow_part}
 use Rattle.gv_sppgtt.specs.Grown.{count_of}
 use Rattle.gv_sppgtt.specs.Holding.{Holds, Keeps}
 use Rattle.gv_sppgtt.specs.declared.tables.Tables.{Tables}
 use Rattle.gv_sppgtt.proofs.DropNode.{sound-gone, all-same, gone-uses, outside-gone}
+use Rattle.gv_sppgtt.proofs.Kept.{is_table-same}
+use Rattle.gv_sppgtt.proofs.OwnPages.{own-others, own-released, page-own}
 use Rattle.gv_sppgtt.proofs.Outside.{stands-shadow, memory-shadow}
 use Rattle.gv_sppgtt.proofs.Room.{count-made}
 
@@ -55,5 +58,23 @@ module _ (d : Device) (placed : Placed) (t u : Tables) (pins : List ℕ) (level 
         omega arith;
   }
 
-  pub keeps-gone : Keeps placed d after t u
-  keeps-gone = record { memory = memory-shadow d after placed outside_same h.stands; outside = outside_same; guest = guest; told = told }
+  pub keeps-gone : Touches frame t.touched u.touched → Keeps placed d after t u pins pins
+  keeps-gone touches = record {
+    memory = memory-shadow d after placed outside_same h.stands;
+    outside = own-released placed.guest (own_in t.nodes) (own_in u.nodes) d page (h.sound.local.labelled level frame page node) (page-own t.nodes level frame page node)
+        (λ q other. sym (own-others u.nodes t.nodes nodes h.nodes level frame page node here (λ k f apart. sym (others k f apart)) q other));
+    guest = guest;
+    told = told;
+    pins = λ q.
+        let used = gone-uses d placed t.nodes u.nodes t.chains t.owners.items t.told.items h.sound level frame page node empty unnamed frames here others (λ k f _. parents k f) in
+        let a = used 1 (maps q) in
+        let b = used 5 (maps q) in
+        let c = used 6 (maps q) in
+        let new : leaves (length placed.pages) (readings_of after u) q ≡ leaves (length placed.pages) (readings_in after.words t.owners.items (pages_of u)) q = ap (λ (own : List ℕ). leaves (length placed.pages) (readings_in after.words own (pages_of u)) q) (ap (λ v. v.items) owners) in
+        omega arith;
+    blocks = touches.kept;
+    tables = λ f is. ⊎_elim
+        (λ same. let clash : true ≡ false = sym touches.here ∙ ap (λ x. get_or u.touched (x / 128) false) (sym same) ∙ is in absurd (false≢true (sym clash)))
+        (λ other. is_table-same (pages_of u) (pages_of t) f (λ k. others k f (λ _ e. other e)))
+        (cases_eq f frame);
+  }

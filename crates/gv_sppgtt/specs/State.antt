@@ -1,10 +1,13 @@
 -- The state of the tables as their code holds it.
-use Rattle.std.specs.Prelude.{ℕ, ◌+◌, ◌*◌, ◌≤◌, ◌<◌, ◌≡◌, Bool, false, List, length}
+use Rattle.std.specs.Prelude.{ℕ, ◌+◌, ◌*◌, ◌/◌, ◌≤◌, ◌<◌, ◌≡◌, Bool, true, false, ◌||◌, is_some, List, [], ◌∷◌, flat_map, length, Option, None, Some}
+use Rattle.std.specs.FinMap.{keys}
 use Rattle.gv_gpu.specs.Device.{Device}
 use Rattle.gv_guest.specs.Placed.{Placed}
 use Rattle.gv_shape.specs.Shadow.{Pages, Readings}
-use Rattle.gv_sppgtt.specs.Sound.{Sound, Pinned, pages_in, parents_in, readings_in}
-use Rattle.gv_gpu.specs.Part.{Part, is_shadow_of}
+use Rattle.gv_sppgtt.specs.Sound.{Sound, Pinned, flag, pages_in, parents_in, readings_in}
+use Rattle.gv_gpu.specs.Part.{Part, is_shadow_of, tables_part}
+use Rattle.gv_nodes.specs.declared.nodes.Node.{Node}
+use Rattle.gv_nodes.specs.NodeMap.{NodeMap, node_at}
 use Rattle.gv_sppgtt.specs.Grown.{Sketch, count_of}
 use Rattle.gv_sppgtt.specs.declared.tables.Tables.{Tables}
 
@@ -34,3 +37,24 @@ HasRoom d placed t = d.live + (4 * length placed.pages + 64) ≤ 131072 + count_
 -- the shadow pages of a guest
 abbrev pub shadow_part : ℕ → Part
 shadow_part guest = record { page = λ n l. is_shadow_of guest l; entry = λ _. false; engine = λ _. false; spare = false }
+
+-- the pages of the nodes
+abbrev pub page_list : Option Node → List ℕ
+page_list None = []
+page_list (Some node) = node.page ∷ []
+
+unfoldable pub own_in : NodeMap → List ℕ
+own_in s = flat_map (λ key. page_list (node_at s key)) (keys s.nodes)
+
+-- these are the part of the device that the tables have
+abbrev pub own_part : ℕ → Tables → Part
+own_part guest t = tables_part guest (own_in t.nodes)
+
+-- the frame has a node of one of the levels 1 to 4
+abbrev pub is_table : Pages → ℕ → Bool
+is_table pages frame = is_some (pages 4 frame) || (is_some (pages 3 frame) || (is_some (pages 2 frame) || is_some (pages 1 frame)))
+
+-- the block of a frame is touched, and each block that was
+pub record Touches (frame : ℕ) (old new : List Bool) : Type 0 where
+  pub here : flag new (frame / 128) ≡ true
+  pub kept : (block : ℕ) → flag new block ≡ false → flag old block ≡ false

@@ -8,11 +8,11 @@ ghost use Rattle.gv_shape.specs.Shadow.{is_live, has_leaves, split_level, wanted
 ghost use Rattle.gv_shape.specs.Counts.{namings, naming, names_node, above, one_if};
 ghost use Rattle.gv_sppgtt.specs.Sound.{Enters, child_entry, child_value, IsBelow, IsChild, IsWhole, IsWord, word_entry};
 ghost use Rattle.gv_sppgtt.specs.Grown.{Made, Held, Growing, Filled, Modest};
-ghost use Rattle.gv_sppgtt.specs.State.{pages_of, parents_of, readings_of, sketch_of, IsSound};
+ghost use Rattle.gv_sppgtt.specs.State.{pages_of, parents_of, readings_of, sketch_of, IsSound, Touches};
 ghost use Rattle.gv_sppgtt.specs.Holding.{Holds, Keeps};
 
 use crate::Tables;
-use crate::tables::{Child, TableFault, Word};
+use crate::tables::{BLOCK, Child, TableFault, Word};
 use gv_entry::{Process, process_of};
 use gv_gpu::Gpu;
 use gv_guest::{Frames, Pins};
@@ -50,6 +50,7 @@ impl Tables {
     // Makes a page the node of a frame at a level, with one parent.
     fn board(&mut self, frame: u32, level: u8, page: u64)
         requires frame { frame < self.old.nodes.frames }
+        requires few { frame < 16384 }
         requires low { 1 ≤ level }
         requires high { level ≤ 6 }
         requires absent { pages_of self.old level frame ≡ None }
@@ -66,8 +67,10 @@ impl Tables {
         ensures chains { self.new.chains ≡ self.old.chains }
         ensures told { self.new.told ≡ self.old.told }
         ensures guest { self.new.guest ≡ self.old.guest }
+        ensures touched { Touches frame self.old.touched self.new.touched }
     {
         self.owners[page as usize] = frame;
+        self.touched[frame as usize / BLOCK] = true;
         let key = self.nodes.insert(frame, level, page);
         self.nodes.add_parent(key);
     }
@@ -89,7 +92,7 @@ impl Tables {
         requires absent { pages_of self.old level frame ≡ None }
         ensures made { IfOk result (λ page. Made level frame page (sketch_of (G.state gpu.old) self.old) (sketch_of (G.state gpu.new) self.new)) }
         ensures holds { Holds (G.state gpu.new) frames.now self.new pins.now }
-        ensures keeps { Keeps frames.now (G.state gpu.old) (G.state gpu.new) self.old self.new }
+        ensures keeps { Keeps frames.now (G.state gpu.old) (G.state gpu.new) self.old self.new pins.now pins.now }
     {
         self.nodes.reserve(1)?;
         let page = gpu.add_page(Label {
@@ -118,6 +121,7 @@ impl Tables {
         ensures chains { self.new.chains ≡ self.old.chains }
         ensures told { self.new.told ≡ self.old.told }
         ensures guest { self.new.guest ≡ self.old.guest }
+        ensures touched { self.new.touched ≡ self.old.touched }
     {
         let key = self.nodes.find(frame, level)?;
         self.nodes.add_parent(key);
@@ -146,7 +150,7 @@ impl Tables {
         requires entry { wanted (memory_in (G.state gpu.old) frames.now) level frame index ≡ Page to writable }
         ensures filled { OnOk result (Filled (length frames.now.pages) (memory_in (G.state gpu.old) frames.now) level frame index (sketch_of (G.state gpu.old) self.old) (sketch_of (G.state gpu.new) self.new)) }
         ensures holds { Holds (G.state gpu.new) frames.now self.new pins.new }
-        ensures keeps { Keeps frames.now (G.state gpu.old) (G.state gpu.new) self.old self.new }
+        ensures keeps { Keeps frames.now (G.state gpu.old) (G.state gpu.new) self.old self.new pins.old pins.new }
     {
         self.chains.reserve(1)?;
         self.put_leaf(
@@ -183,7 +187,7 @@ impl Tables {
         requires room { (k f : ℕ) → 1 ≤ k → above k ≡ level → namings (length frames.now.pages) (readings_of (G.state gpu.old) self.old) k f + one_if (names_node k f (naming child.level child.frame)) ≤ parents_of self.old k f }
         ensures enters { Enters (readings_of (G.state gpu.old) self.old) (readings_of (G.state gpu.new) self.new) level frame index (naming child.level child.frame) }
         ensures holds { Holds (G.state gpu.new) frames.now self.new pins.now }
-        ensures keeps { Keeps frames.now (G.state gpu.old) (G.state gpu.new) self.old self.new }
+        ensures keeps { Keeps frames.now (G.state gpu.old) (G.state gpu.new) self.old self.new pins.now pins.now }
         ensures same { self.new ≡ self.old }
     {
         self.put_table(gpu, frames, frame, level, page, index, Some(child));
@@ -261,7 +265,7 @@ impl Tables {
         ensures grown { IfOk result (λ page. Growing (length frames.now.pages) (memory_in (G.state gpu.old) frames.now) level frame 512 (sketch_of (G.state gpu.old) self.old) (sketch_of (G.state gpu.new) self.new)) }
         ensures there { IfOk result (λ page. pages_of self.new level frame ≡ Some page) }
         ensures holds { Holds (G.state gpu.new) frames.now self.new pins.new }
-        ensures keeps { Keeps frames.now (G.state gpu.old) (G.state gpu.new) self.old self.new }
+        ensures keeps { Keeps frames.now (G.state gpu.old) (G.state gpu.new) self.old self.new pins.old pins.new }
         ensures idle { (p : ℕ) → pages_of self.old level frame ≡ Some p → (G.state gpu.new ≡ G.state gpu.old) × ((k f : ℕ) → pages_of self.new k f ≡ pages_of self.old k f) }
         ensures good { IsErrOf result TableFault.BadEntry → level ≤ 4 }
         ensures bad { IsErrOf result TableFault.BadEntry → (roots : List ℕ) → is_live (memory_in (G.state gpu.old) frames.now) roots level frame ≡ true → has_bad_entry (memory_in (G.state gpu.old) frames.now) roots ≡ true }
@@ -299,7 +303,7 @@ impl Tables {
         requires modest { (h lower : ℕ) → IsBelow (length frames.now.pages) level h lower → Modest (length frames.now.pages) lower (sketch_of (G.state gpu.old) self.old) }
         ensures filled { OnOk result (Filled (length frames.now.pages) (memory_in (G.state gpu.old) frames.now) level frame index (sketch_of (G.state gpu.old) self.old) (sketch_of (G.state gpu.new) self.new)) }
         ensures holds { Holds (G.state gpu.new) frames.now self.new pins.new }
-        ensures keeps { Keeps frames.now (G.state gpu.old) (G.state gpu.new) self.old self.new }
+        ensures keeps { Keeps frames.now (G.state gpu.old) (G.state gpu.new) self.old self.new pins.old pins.new }
         ensures good { IsErrOf result TableFault.BadEntry → level ≤ 4 }
         ensures bad { IsErrOf result TableFault.BadEntry → (roots : List ℕ) → is_live (memory_in (G.state gpu.old) frames.now) roots level frame ≡ true → has_bad_entry (memory_in (G.state gpu.old) frames.now) roots ≡ true }
     {

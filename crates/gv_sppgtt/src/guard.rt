@@ -1,7 +1,7 @@
 ghost use Rattle.std.specs.Prelude.{◌≡◌, ℕ, ◌<◌, ◌≤◌, length, slice_set};
 ghost use Rattle.gv_gpu.specs.Part.{outside};
 ghost use Rattle.gv_guest.specs.Placed.{memory_in};
-ghost use Rattle.gv_sppgtt.specs.State.{readings_of, shadow_part};
+ghost use Rattle.gv_sppgtt.specs.State.{own_part, readings_of};
 ghost use Rattle.gv_sppgtt.specs.Holding.{Holds};
 
 use crate::Tables;
@@ -19,7 +19,9 @@ impl Tables {
         ensures nodes { self.new.nodes ≡ self.old.nodes }
         ensures readings { (k f i : ℕ) → readings_of (G.state gpu.new) self.new k f i ≡ readings_of (G.state gpu.old) self.old k f i }
         ensures memory { memory_in (G.state gpu.new) frames.now ≡ memory_in (G.state gpu.old) frames.now }
-        ensures outside { outside (shadow_part frames.now.guest) (G.state gpu.new) ≡ outside (shadow_part frames.now.guest) (G.state gpu.old) }
+        ensures outside { outside (own_part frames.now.guest self.new) (G.state gpu.new) ≡ outside (own_part frames.now.guest self.old) (G.state gpu.old) }
+        ensures guest { self.new.guest ≡ self.old.guest }
+        ensures touched { self.new.touched ≡ self.old.touched }
     {
         let host = frames.page(frame);
         for leaf in self.chains.walk(frame) {

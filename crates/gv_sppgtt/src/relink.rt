@@ -37,7 +37,7 @@ impl Tables {
         ensures there { IfOk result (λ child. IsChild (pages_of self.new) level child) }
         ensures room { IfOk result (λ child. (k f : ℕ) → 1 ≤ k → above k ≡ level → namings (length frames.now.pages) (readings_of (G.state gpu.new) self.new) k f + one_if (names_node k f (child_entry child)) ≤ parents_of self.new k f) }
         ensures holds { Holds (G.state gpu.new) frames.now self.new pins.new }
-        ensures keeps { Keeps frames.now (G.state gpu.old) (G.state gpu.new) self.old self.new }
+        ensures keeps { Keeps frames.now (G.state gpu.old) (G.state gpu.new) self.old self.new pins.old pins.new }
         ensures idle { IfOk result (λ child. (IfSome child (λ to. (p : ℕ) × (pages_of self.old to.level to.frame ≡ Some p))) → (G.state gpu.new ≡ G.state gpu.old) × ((k f : ℕ) → pages_of self.new k f ≡ pages_of self.old k f)) }
         ensures bad { IsErrOf result TableFault.BadEntry → (roots : List ℕ) → is_live (memory_in (G.state gpu.old) frames.now) roots level frame ≡ true → has_bad_entry (memory_in (G.state gpu.old) frames.now) roots ≡ true }
     {
@@ -80,7 +80,7 @@ impl Tables {
         ensures same { self.new ≡ self.old }
         ensures pokes { (G.state gpu.new).pokes ≡ counted (G.state gpu.old).pokes }
         ensures holds { Holds (G.state gpu.new) frames.now self.new pins.now }
-        ensures keeps { Keeps frames.now (G.state gpu.old) (G.state gpu.new) self.old self.new }
+        ensures keeps { Keeps frames.now (G.state gpu.old) (G.state gpu.new) self.old self.new pins.now pins.now }
     {
         self.put_table(gpu, frames, frame, level, page, index, child);
     }
@@ -105,7 +105,7 @@ impl Tables {
         requires modest { (h lower : ℕ) → IsBelow (length frames.now.pages) level h lower → Modest (length frames.now.pages) lower (sketch_of (G.state gpu.old) self.old) }
         ensures rests { OnOk result ((roots : List ℕ) → Rests (length frames.now.pages) (memory_in (G.state gpu.old) frames.now) roots level frame index (sketch_of (G.state gpu.old) self.old) → Rests (length frames.now.pages) (memory_in (G.state gpu.old) frames.now) roots (level - 1) frame index (sketch_of (G.state gpu.new) self.new)) }
         ensures holds { Holds (G.state gpu.new) frames.now self.new pins.new }
-        ensures keeps { Keeps frames.now (G.state gpu.old) (G.state gpu.new) self.old self.new }
+        ensures keeps { Keeps frames.now (G.state gpu.old) (G.state gpu.new) self.old self.new pins.old pins.new }
         ensures above { OnOk result ((k f : ℕ) → rank level ≤ rank k → pages_of self.new k f ≡ pages_of self.old k f) }
         ensures pokes { OnOk result (((k f : ℕ) → above k ≡ level → pages_of self.new k f ≡ pages_of self.old k f) → ((G.state gpu.new).pokes ≡ counted (G.state gpu.old).pokes) × ((k f : ℕ) → pages_of self.new k f ≡ pages_of self.old k f)) }
         ensures bad { IsErrOf result TableFault.BadEntry → (roots : List ℕ) → is_live (memory_in (G.state gpu.old) frames.now) roots level frame ≡ true → has_bad_entry (memory_in (G.state gpu.old) frames.now) roots ≡ true }

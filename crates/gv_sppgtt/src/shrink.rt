@@ -7,10 +7,11 @@ ghost use Rattle.gv_shape.specs.Shadow.{has_leaves};
 ghost use Rattle.gv_shape.specs.Counts.{namings, naming, above};
 ghost use Rattle.gv_sppgtt.specs.Sound.{Enters, IsBelow};
 ghost use Rattle.gv_sppgtt.specs.Grown.{Dropped, Emptying, Emptied};
-ghost use Rattle.gv_sppgtt.specs.State.{pages_of, parents_of, readings_of, sketch_of};
+ghost use Rattle.gv_sppgtt.specs.State.{pages_of, parents_of, readings_of, sketch_of, Touches};
 ghost use Rattle.gv_sppgtt.specs.Holding.{Holds, Keeps};
 
 use crate::Tables;
+use crate::tables::BLOCK;
 use crate::grow::split_level;
 use gv_gpu::Gpu;
 use gv_guest::{Frames, Pins};
@@ -33,6 +34,7 @@ impl Tables {
         ensures chains { self.new.chains ≡ self.old.chains }
         ensures told { self.new.told ≡ self.old.told }
         ensures guest { self.new.guest ≡ self.old.guest }
+        ensures touched { self.new.touched ≡ self.old.touched }
     {
         let Some(key) = self.nodes.find(frame, level) else {
             unreachable!();
@@ -45,6 +47,7 @@ impl Tables {
     // Takes out a node that has no parents.
     fn unboard(&mut self, frame: u32, level: u8)
         requires frame { frame < self.old.nodes.frames }
+        requires few { frame < 16384 }
         requires low { 1 ≤ level }
         requires high { level ≤ 6 }
         requires nodes { AreNodes self.old.nodes }
@@ -59,11 +62,13 @@ impl Tables {
         ensures chains { self.new.chains ≡ self.old.chains }
         ensures told { self.new.told ≡ self.old.told }
         ensures guest { self.new.guest ≡ self.old.guest }
+        ensures touched { Touches frame self.old.touched self.new.touched }
     {
         let Some(key) = self.nodes.find(frame, level) else {
             unreachable!();
         };
         self.nodes.remove(key);
+        self.touched[frame as usize / BLOCK] = true;
     }
 
     // Maps nothing by a word of a table of leaves.
@@ -83,7 +88,7 @@ impl Tables {
         requires node { pages_of self.old level frame ≡ Some page }
         ensures emptied { Emptied (length frames.now.pages) level frame index (sketch_of (G.state gpu.old) self.old) (sketch_of (G.state gpu.new) self.new) }
         ensures holds { Holds (G.state gpu.new) frames.now self.new pins.new }
-        ensures keeps { Keeps frames.now (G.state gpu.old) (G.state gpu.new) self.old self.new }
+        ensures keeps { Keeps frames.now (G.state gpu.old) (G.state gpu.new) self.old self.new pins.old pins.new }
     {
         self.put_leaf(gpu, frames, pins, frame, level, page, index, None);
     }
@@ -108,7 +113,7 @@ impl Tables {
         ensures held { (h lower : ℕ) → readings_of (G.state gpu.old) self.old level frame index ≡ naming lower h → above lower ≡ level → 1 ≤ lower → lower ≤ 6 → namings (length frames.now.pages) (readings_of (G.state gpu.new) self.new) lower h + 1 ≤ parents_of self.new lower h }
         ensures same { self.new ≡ self.old }
         ensures holds { Holds (G.state gpu.new) frames.now self.new pins.now }
-        ensures keeps { Keeps frames.now (G.state gpu.old) (G.state gpu.new) self.old self.new }
+        ensures keeps { Keeps frames.now (G.state gpu.old) (G.state gpu.new) self.old self.new pins.now pins.now }
     {
         self.put_table(gpu, frames, frame, level, page, index, None);
     }
@@ -167,7 +172,7 @@ impl Tables {
         ensures parents { (k f : ℕ) → parents_of self.new k f ≡ parents_of self.old k f }
         ensures words { (k f i : ℕ) → i < 512 → readings_of (G.state gpu.new) self.new k f i ≡ readings_of (G.state gpu.old) self.old k f i }
         ensures holds { Holds (G.state gpu.new) frames.now self.new pins.now }
-        ensures keeps { Keeps frames.now (G.state gpu.old) (G.state gpu.new) self.old self.new }
+        ensures keeps { Keeps frames.now (G.state gpu.old) (G.state gpu.new) self.old self.new pins.now pins.now }
     {
         self.unboard(frame, level);
         gpu.release(page);
@@ -191,7 +196,7 @@ impl Tables {
         ensures dropped { Dropped (length frames.now.pages) level frame (sketch_of (G.state gpu.old) self.old) (sketch_of (G.state gpu.new) self.new) }
         ensures idle { (p : ℕ) → pages_of self.new level frame ≡ Some p → (G.state gpu.new ≡ G.state gpu.old) × ((k f : ℕ) → pages_of self.new k f ≡ pages_of self.old k f) }
         ensures holds { Holds (G.state gpu.new) frames.now self.new pins.new }
-        ensures keeps { Keeps frames.now (G.state gpu.old) (G.state gpu.new) self.old self.new }
+        ensures keeps { Keeps frames.now (G.state gpu.old) (G.state gpu.new) self.old self.new pins.old pins.new }
     {
         let Some(page) = self.unhold(frame, level) else {
             return;
@@ -222,7 +227,7 @@ impl Tables {
         requires node { pages_of self.old level frame ≡ Some page }
         ensures emptied { Emptied (length frames.now.pages) level frame index (sketch_of (G.state gpu.old) self.old) (sketch_of (G.state gpu.new) self.new) }
         ensures holds { Holds (G.state gpu.new) frames.now self.new pins.new }
-        ensures keeps { Keeps frames.now (G.state gpu.old) (G.state gpu.new) self.old self.new }
+        ensures keeps { Keeps frames.now (G.state gpu.old) (G.state gpu.new) self.old self.new pins.old pins.new }
     {
         if level == 1 || level > 4 {
             self.empty_leaf(gpu, frames, pins, frame, level, page, index);

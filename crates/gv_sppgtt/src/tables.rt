@@ -4,7 +4,7 @@ ghost use Rattle.gv_rmap.specs.declared.leaf.Leaf.{Leaf};
 ghost use Rattle.gv_rmap.specs.Leaves.{leaf_at};
 ghost use Rattle.gv_rmap.specs.Chains.{chain_of};
 ghost use Rattle.gv_shape.specs.Shadow.{leaf_word, has_leaves, Names, Pages};
-ghost use Rattle.gv_shape.specs.Counts.{maps, one_if};
+ghost use Rattle.gv_shape.specs.Counts.{leaves, maps, one_if};
 ghost use Rattle.gv_gpu.specs.Device.{poked};
 ghost use Rattle.gv_guest.specs.Placed.{Stands};
 ghost use Rattle.gv_sppgtt.specs.Sound.{decode, flag, leaf_of, leaf_entry, place_leaf, IsLinked, Enters};
@@ -62,7 +62,13 @@ pub struct Tables {
     pub(crate) owners: Vec<u32>,
     // The frames that the caller knows to be guarded.
     pub(crate) told: Vec<bool>,
+    // For each block of frames: whether a node of one of them came or went since the caller was told.
+    pub(crate) touched: [bool; BLOCKS],
 }
+
+/// Frames are told of in blocks of so many.
+pub(crate) const BLOCK: usize = 128;
+pub(crate) const BLOCKS: usize = 128;
 
 impl Tables {
     // The frame of the leaf that a word names, if it names one.
@@ -90,6 +96,7 @@ impl Tables {
         ensures owners { self.new.owners ≡ self.old.owners }
         ensures told { self.new.told ≡ self.old.told }
         ensures guest { self.new.guest ≡ self.old.guest }
+        ensures touched { self.new.touched ≡ self.old.touched }
     {
         let Some(frame) = self.leaf_frame(word) else {
             return;
@@ -133,6 +140,8 @@ impl Tables {
         ensures nodes { self.new.nodes ≡ self.old.nodes }
         ensures told { self.new.told ≡ self.old.told }
         ensures guest { self.new.guest ≡ self.old.guest }
+        ensures touched { self.new.touched ≡ self.old.touched }
+        ensures exact { (h : ℕ) → slice_index pins.new h + leaves (length frames.now.pages) (readings_of (G.state gpu.old) self.old) h ≡ slice_index pins.old h + leaves (length frames.now.pages) (readings_of (G.state gpu.new) self.new) h }
         ensures spare { self.old.chains.spare ≤ self.new.chains.spare + 1 }
     {
         let word = gpu.word(page, index as usize);
@@ -173,6 +182,7 @@ impl Tables {
         ensures owners { length self.new.owners.items ≡ 131072 }
         ensures told { self.new.told ≡ self.old.told }
         ensures guest { self.new.guest ≡ self.old.guest }
+        ensures touched { self.new.touched ≡ self.old.touched }
     {
         match leaf {
             Some((frame, writable)) => self.add_leaf(pins, frames, frame, page, index, writable),
@@ -209,6 +219,7 @@ impl Tables {
         ensures owners { self.new.owners.items ≡ slice_set self.old.owners.items (slice_index frames.now.pages frame) frame }
         ensures told { self.new.told ≡ self.old.told }
         ensures guest { self.new.guest ≡ self.old.guest }
+        ensures touched { self.new.touched ≡ self.old.touched }
     {
         self.chains.link(
             frame,

@@ -47,7 +47,7 @@ impl Tables {
         ensures enters { OnOk result (Enters (readings_of (G.state gpu.old) self.old) (readings_of (G.state gpu.new) self.new) 1 frame index (leaf_entry leaf)) }
         ensures nodes { self.new.nodes ≡ self.old.nodes }
         ensures holds { Holds (G.state gpu.new) frames.now self.new pins.new }
-        ensures keeps { Keeps frames.now (G.state gpu.old) (G.state gpu.new) self.old self.new }
+        ensures keeps { Keeps frames.now (G.state gpu.old) (G.state gpu.new) self.old self.new pins.old pins.new }
     {
         self.chains.reserve(1)?;
         self.put_leaf(gpu, frames, pins, frame, 1, page, index, leaf);
@@ -70,7 +70,7 @@ impl Tables {
         requires node { pages_of self.old 1 frame ≡ Some page }
         ensures rests { OnOk result ((roots : List ℕ) → Rests (length frames.now.pages) (memory_in (G.state gpu.old) frames.now) roots 1 frame index (sketch_of (G.state gpu.old) self.old) → Rests (length frames.now.pages) (memory_in (G.state gpu.old) frames.now) roots 0 frame index (sketch_of (G.state gpu.new) self.new)) }
         ensures holds { Holds (G.state gpu.new) frames.now self.new pins.new }
-        ensures keeps { Keeps frames.now (G.state gpu.old) (G.state gpu.new) self.old self.new }
+        ensures keeps { Keeps frames.now (G.state gpu.old) (G.state gpu.new) self.old self.new pins.old pins.new }
         ensures bad { IsErrOf result TableFault.BadEntry → entry_of (memory_in (G.state gpu.old) frames.now) 1 frame index ≡ Bad }
     {
         match self.entry(gpu, frames, frame, 1, index) {
@@ -105,7 +105,7 @@ impl Tables {
         requires rests { (roots : List ℕ) × Rests (length frames.now.pages) (memory_in (G.state gpu.old) frames.now) roots level frame index (sketch_of (G.state gpu.old) self.old) }
         ensures rests { OnOk result ((roots : List ℕ) → Rests (length frames.now.pages) (memory_in (G.state gpu.old) frames.now) roots level frame index (sketch_of (G.state gpu.old) self.old) → Rests (length frames.now.pages) (memory_in (G.state gpu.old) frames.now) roots (level - 1) frame index (sketch_of (G.state gpu.new) self.new)) }
         ensures holds { Holds (G.state gpu.new) frames.now self.new pins.new }
-        ensures keeps { Keeps frames.now (G.state gpu.old) (G.state gpu.new) self.old self.new }
+        ensures keeps { Keeps frames.now (G.state gpu.old) (G.state gpu.new) self.old self.new pins.old pins.new }
         ensures bad { IsErrOf result TableFault.BadEntry → (roots : List ℕ) → Rests (length frames.now.pages) (memory_in (G.state gpu.old) frames.now) roots level frame index (sketch_of (G.state gpu.old) self.old) → has_bad_entry (memory_in (G.state gpu.old) frames.now) roots ≡ true }
     {
         let Some(page) = self.page_at(frame, level) else {
@@ -130,7 +130,7 @@ impl Tables {
         requires rests { (roots : List ℕ) × Rests (length frames.now.pages) (memory_in (G.state gpu.old) frames.now) roots 4 frame index (sketch_of (G.state gpu.old) self.old) }
         ensures settled { OnOk result ((roots : List ℕ) → Rests (length frames.now.pages) (memory_in (G.state gpu.old) frames.now) roots 4 frame index (sketch_of (G.state gpu.old) self.old) → Rests (length frames.now.pages) (memory_in (G.state gpu.new) frames.now) roots 0 frame index (sketch_of (G.state gpu.new) self.new)) }
         ensures holds { Holds (G.state gpu.new) frames.now self.new pins.new }
-        ensures keeps { Keeps frames.now (G.state gpu.old) (G.state gpu.new) self.old self.new }
+        ensures keeps { Keeps frames.now (G.state gpu.old) (G.state gpu.new) self.old self.new pins.old pins.new }
         ensures bad { IsErrOf result TableFault.BadEntry → (roots : List ℕ) → Rests (length frames.now.pages) (memory_in (G.state gpu.old) frames.now) roots 4 frame index (sketch_of (G.state gpu.old) self.old) → has_bad_entry (memory_in (G.state gpu.old) frames.now) roots ≡ true }
     {
         if let Err(fault) = self.step(gpu, frames, pins, frame, 4, index) {
@@ -159,7 +159,7 @@ impl Tables {
         requires within { index < 512 }
         ensures rests { OnOk result ((roots : List ℕ) → Rests (length frames.now.pages) (memory_in (G.state gpu.old) frames.now) roots 1 frame index (sketch_of (G.state gpu.old) self.old) → Rests (length frames.now.pages) (memory_in (G.state gpu.old) frames.now) roots 0 frame index (sketch_of (G.state gpu.new) self.new)) }
         ensures holds { Holds (G.state gpu.new) frames.now self.new pins.new }
-        ensures keeps { Keeps frames.now (G.state gpu.old) (G.state gpu.new) self.old self.new }
+        ensures keeps { Keeps frames.now (G.state gpu.old) (G.state gpu.new) self.old self.new pins.old pins.new }
         ensures bad { IsErrOf result TableFault.BadEntry → (roots : List ℕ) → Rests (length frames.now.pages) (memory_in (G.state gpu.old) frames.now) roots 1 frame index (sketch_of (G.state gpu.old) self.old) → has_bad_entry (memory_in (G.state gpu.old) frames.now) roots ≡ true }
     {
         let Some(page) = self.page_at(frame, 1) else {

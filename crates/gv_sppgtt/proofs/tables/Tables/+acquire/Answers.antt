@@ -17,7 +17,8 @@ use Rattle.gv_sppgtt.specs.Grown.{Growing, Filled, Made}
 use Rattle.gv_sppgtt.specs.Holding.{Holds, Keeps}
 use Rattle.gv_sppgtt.specs.declared.tables.Tables.{Tables}
 use Rattle.gv_sppgtt.proofs.PutLeaf.{uses-most}
-use Rattle.gv_sppgtt.proofs.Held.{growing-held, holds-held}
+use Rattle.gv_sppgtt.proofs.Kept.{keeps_trans}
+use Rattle.gv_sppgtt.proofs.Held.{keeps-held, growing-held, holds-held}
 use Rattle.gv_sppgtt.proofs.Growing.{growing-made, growing-filled, filled-table, modest-below, room-grown}
 use Rattle.gv_sppgtt.proofs.BadEntries.{bad-here, live-child, frame-words, page-is, table-is}
 use Rattle.gv_sppgtt.proofs.tables.Tables.+acquire.Goals as goal
@@ -49,8 +50,11 @@ acquire-returns-in-Some-clause-holds g t c =
     let s = c.in-Some.ensures in
     holds-held d c.args.frames.now c.args.self.now c.hold.new.self c.args.pins.now c.args.level c.args.frame c.in-Some.page c.requires.holds s.there s.pages s.here s.others s.nodes s.frames s.owners s.chains s.told s.guest
 
-keeps_trans : (placed : Placed) (d e f : Device) (t u v : Tables) → Keeps placed d e t u → Keeps placed e f u v → Keeps placed d f t v
-keeps_trans placed d e f t u v first second = record { memory = second.memory ∙ first.memory; outside = second.outside ∙ first.outside; guest = second.guest ∙ first.guest; told = second.told ∙ first.told }
+pub acquire-returns-in-Some-clause-keeps : goal.acquire-returns-in-Some-clause-keeps
+acquire-returns-in-Some-clause-keeps g t c =
+    let d = g.G.Gpu.state c.args.gpu.now in
+    let s = c.in-Some.ensures in
+    keeps-held d c.args.frames.now c.args.self.now c.hold.new.self c.args.pins.now c.args.level c.args.frame c.in-Some.page c.requires.holds s.there s.pages s.here s.others s.nodes s.frames s.owners s.chains s.told s.guest s.touched
 
 pub acquire-loop-index-init : goal.acquire-loop-index-init
 acquire-loop-index-init g t c =
@@ -63,7 +67,7 @@ acquire-loop-index-init g t c =
     let made = subst (λ (x : Tables). Made c.args.level c.args.frame c.in_ok-page.page (sketch_of d x) (sketch_of e u)) none.1 p.made in
     record {
       holds = p.holds;
-      keeps = subst (λ (x : Tables). Keeps c.args.frames.now d e x u) none.1 p.keeps;
+      keeps = subst (λ (x : Tables). Keeps c.args.frames.now d e x u c.args.pins.now c.args.pins.now) none.1 p.keeps;
       there = made.here;
       grown = growing-made (length c.args.frames.now.pages) (memory_in d c.args.frames.now) c.args.level c.args.frame c.in_ok-page.page (sketch_of d old) (sketch_of e u)
           none.0 (no_parents (node_of old.nodes c.args.level c.args.frame) none.0) (λ i. ap (λ o. reading_at d.words old.owners.items c.args.level o i) none.0) made;
@@ -85,7 +89,7 @@ acquire-loop-index-preserved g t c =
     let filled = subst (λ (m : Memory). Filled n m c.args.level c.args.frame c.loop-index.index (sketch_of e u) (sketch_of f v)) was.keeps.memory p.filled in
     record {
       holds = p.holds;
-      keeps = keeps_trans placed d e f old u v was.keeps p.keeps;
+      keeps = keeps_trans placed d e f old u v c.args.pins.now c.loop-index.pins c.fill.new.pins was.keeps p.keeps;
       there = filled.kept.pages c.args.level c.args.frame c.in_ok-page.page was.there;
       grown = growing-filled n (memory_in d placed) c.args.level c.args.frame c.loop-index.index (sketch_of d old) (sketch_of e u) (sketch_of f v) c.loop-index-test.true none.0 was.grown filled;
     }

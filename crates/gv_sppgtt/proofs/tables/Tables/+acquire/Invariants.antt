@@ -19,7 +19,7 @@ invariant-acquire-loop-index g l =
     let start = g.G.Gpu.state l.fn.gpu in
     record {
       holds : Holds now l.frames l.self l.pins;
-      keeps : Keeps l.frames start now l.fn.self l.self;
+      keeps : Keeps l.frames start now l.fn.self l.self l.fn.pins l.pins;
       there : pages_of l.self l.level l.frame ≡ Some l.page;
       grown : Growing (length l.frames.pages) (memory_in start l.frames) l.level l.frame l.index (sketch_of start l.fn.self) (sketch_of now l.self);
     }

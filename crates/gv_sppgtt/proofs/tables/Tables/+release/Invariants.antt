@@ -18,7 +18,7 @@ invariant-release-loop-index g l =
     let begun = g.G.Gpu.state l.initial.gpu in
     record {
       holds : Holds now l.frames l.self l.pins;
-      keeps : Keeps l.frames begun now l.initial.self l.self;
+      keeps : Keeps l.frames begun now l.initial.self l.self l.initial.pins l.pins;
       there : pages_of l.self l.level l.frame ≡ Some l.page;
       none : parents_of l.self l.level l.frame ≡ 0;
       emptying : Emptying (length l.frames.pages) l.level l.frame l.index (sketch_of begun l.initial.self) (sketch_of now l.self);

@@ -33,4 +33,4 @@ returns-clause-keeps g c =
     let t = c.args.self.now in
     let u = c.put_leaf.new.self in
     let p = c.put_leaf.ensures in
-    keeps-poked d e c.args.frames.now t u c.args.pins.now c.args.level c.args.frame c.args.page c.args.index p.poke.0 c.requires.holds c.requires.node p.poke.1 p.nodes p.guest p.told
+    keeps-poked d e c.args.frames.now t u c.args.pins.now c.args.level c.args.frame c.args.page c.args.index p.poke.0 c.requires.holds c.requires.node p.poke.1 p.nodes p.guest p.told c.put_leaf.new.pins p.exact p.touched

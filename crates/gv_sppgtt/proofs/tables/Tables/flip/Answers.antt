@@ -18,6 +18,7 @@ loop-leaf-init g c =
       local = record { labelled = h.sound.local.labelled; names = h.sound.local.names };
       readings = λ k f i. refl;
       outside = refl;
+      own = refl;
       live = refl;
     }
 

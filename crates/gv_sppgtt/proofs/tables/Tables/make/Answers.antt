@@ -14,6 +14,7 @@ use Rattle.gv_sppgtt.proofs.NodePairs.{are_reserved, node_of-reserved}
 use Rattle.gv_sppgtt.proofs.SameNodes.{label-is, sound-same, pinned-same, room-same}
 use Rattle.gv_sppgtt.proofs.Room.{count-most, count-made}
 use Rattle.gv_sppgtt.proofs.Outside.{stands-shadow, memory-shadow, shadow-added}
+use Rattle.gv_sppgtt.proofs.Kept.{keeps-nodes}
 use Rattle.gv_sppgtt.proofs.Making.{same-pages, holds-reserved, all-made, holds-made, keeps-made}
 use Rattle.gv_sppgtt.proofs.tables.Tables.make.Goals as goal
 
@@ -64,4 +65,13 @@ returns-clause-keeps g c =
     let label = label-is t.guest c.args.frames.now.guest c.requires.holds.guest in
     rw (p.ok, label)
     (keeps-made d c.args.frames.now t c.board.new.self c.args.pins.now c.reserve.new.self c.args.level c.args.frame c.in_ok-page.page c.requires.holds c.in_ok-reserve.ensures.ok c.requires.frame c.requires.low c.requires.high c.requires.whole c.requires.absent
-    p.below p.fresh p.empty b.here b.parent b.others b.parents b.nodes b.frames b.owners b.chains b.told b.guest)
+    p.below p.fresh p.empty b.here b.parent b.others b.parents b.nodes b.frames b.owners b.chains b.told b.guest b.touched)
+
+pub returns-in_err-page-clause-keeps : goal.returns-in_err-page-clause-keeps
+returns-in_err-page-clause-keeps g c =
+    let t = c.args.self.now in
+    let r = c.reserve.new.self in
+    let is = c.in_ok-reserve.ensures.ok in
+    rw c.in_err-page.ensures.err
+    (keeps-nodes c.args.frames.now (g.G.Gpu.state c.args.gpu.now) t (record t { nodes = r }) c.args.pins.now c.requires.holds.nodes (rw is (are_reserved t.nodes 1 c.requires.holds.nodes))
+    (λ k f. ap (λ (p : Pages). p k f) (same-pages t.nodes r is)) refl refl refl refl)

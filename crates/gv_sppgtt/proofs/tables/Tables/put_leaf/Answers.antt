@@ -5,7 +5,7 @@ use Rattle.gv_rmap.specs.Leaves.{leaf_at}
 use Rattle.gv_rmap.specs.Chains.{ReverseMap, chain_of}
 use Rattle.gv_shape.specs.Counts.{maps, one_if, names_node}
 use Rattle.gv_sppgtt.specs.Sound.{decode, leaf_entry, place_leaf, reading_at, Sound, Enters, Pinned, readings_in, pages_in, flag}
-use Rattle.gv_sppgtt.proofs.PutLeaf.{leaf-known, pins-most, leaf-enters, leaf-sound, leaf-pinned, nested}
+use Rattle.gv_sppgtt.proofs.PutLeaf.{leaf-known, pins-most, leaf-enters, leaf-sound, leaf-exact, leaf-pinned, nested}
 use Rattle.gv_sppgtt.proofs.tables.Tables.put_leaf.Goals as goal
 use Rattle.gv_shape.specs.Shadow.{has_leaves, Names, Pages}
 use Rattle.gv_guest.specs.Placed.{Placed}
@@ -87,3 +87,21 @@ returns-clause-pinned g c =
           c.args.pins.now c.take_leaf.new.pins c.enter_leaf-value.new.pins c.requires.pinned.1
           (λ h. ap (λ e. get_or c.take_leaf.new.pins h 0 + one_if (maps h e)) (sym old) ∙ took.pins h) put.pins),
     )
+
+pub returns-clause-exact : goal.returns-clause-exact
+returns-clause-exact g c =
+    let t = c.args.self.now in
+    let m = c.take_leaf.new.self in
+    let n = c.enter_leaf-value.new.self in
+    let d = g.G.Gpu.state c.args.gpu.now in
+    let put = c.enter_leaf-value.ensures in
+    let took = c.take_leaf.ensures in
+    let old : decode t.owners.items 1 c.word-word.result ≡ reading_at d.words t.owners.items c.args.level (pages_in t.nodes c.args.level c.args.table) c.args.index =
+    sym (decode-leaf t.owners.items c.args.level c.word-word.result c.requires.leaves) ∙ ap (decode t.owners.items c.args.level) c.word-word.ensures ∙ sym (ap (λ o. reading_at d.words t.owners.items c.args.level o c.args.index) c.requires.node) in
+    rw (c.poke.ensures, put.nodes, took.nodes)
+          (leaf-exact d c.args.frames.now t.nodes t.chains t.owners.items t.told.items c.requires.stands c.requires.sound
+          c.args.table c.args.level c.args.page c.args.index c.enter_leaf-value.result (leaf_entry c.args.leaf) (nothing c.args.leaf) c.requires.leaves n.chains n.owners.items c.requires.node c.requires.within
+          (at_level c.args.frames.now (pages_in t.nodes) (flag t.told.items) c.args.level c.requires.leaves c.args.leaf c.enter_leaf-value.result (rw took.told at (put.named (pages_in t.nodes)))) (decode-leaf n.owners.items c.args.level c.enter_leaf-value.result c.requires.leaves ∙ put.stands_for) (linked_at t.chains m.chains n.chains c.args.page c.args.index (leaf_entry c.args.leaf) took.gone put.linked)
+          (rw took.owners at put.at_frames) (rw took.owners at put.at_others) (put.long ∙ took.long) put.owners
+          c.args.pins.now c.take_leaf.new.pins c.enter_leaf-value.new.pins
+          (λ h. ap (λ e. get_or c.take_leaf.new.pins h 0 + one_if (maps h e)) (sym old) ∙ took.pins h) put.pins)

@@ -10,6 +10,7 @@ use Rattle.gv_shape.specs.Counts.{one_if, naming, above}
 use Rattle.gv_sppgtt.specs.Sound.{child_entry, IsChild}
 use Rattle.gv_sppgtt.specs.State.{pages_of, parents_of, readings_of, sketch_of}
 use Rattle.gv_sppgtt.proofs.Relinked.{released-table, released-none, rests-relinked, acquired-above}
+use Rattle.gv_sppgtt.proofs.Kept.{keeps_trans}
 use Rattle.gv_sppgtt.proofs.tables.Tables.relink.Goals as goal
 use Rattle.gv_shape.specs.Shadow.{Pages}
 use Rattle.gv_shape.proofs.Levels.{rank-below}
@@ -86,4 +87,43 @@ returns-clause-pokes g c same =
     let released = c.release.ensures.idle old.0 (same c.in-Some.lower c.in-Some.old below.above ∙ old.1) in (
       ap (λ (x : Device). x.pokes) released.0 ∙ c.replace.ensures.pokes ∙ ap (λ (x : Device). counted x.pokes) acquired.0,
       λ k q. released.1 k q ∙ ap (λ (x : Tables). pages_of x k q) c.replace.ensures.same ∙ acquired.1 k q,
+    )
+
+pub release-requires-clause-held : goal.release-requires-clause-held
+release-requires-clause-held g c =
+    let below = c.in-Some.ensures.below in
+    c.replace.ensures.held c.in-Some.old c.in-Some.lower c.in-Some.ensures.some below.above below.low below.six
+
+pub returns-in_default-clause-keeps : goal.returns-in_default-clause-keeps
+returns-in_default-clause-keeps g c =
+    let d = g.G.Gpu.state c.args.gpu.now in
+    let e = g.G.Gpu.state c.acquire_entry.new.gpu in
+    let f = g.G.Gpu.state c.replace.new.gpu in
+    keeps_trans c.args.frames.now d e f c.args.self.now c.acquire_entry.new.self c.replace.new.self c.args.pins.now c.acquire_entry.new.pins c.acquire_entry.new.pins c.in-Ok.ensures.keeps c.replace.ensures.keeps
+
+pub returns-clause-keeps : goal.returns-clause-keeps
+returns-clause-keeps g c =
+    let d = g.G.Gpu.state c.args.gpu.now in
+    let e = g.G.Gpu.state c.acquire_entry.new.gpu in
+    let f = g.G.Gpu.state c.replace.new.gpu in
+    let z = g.G.Gpu.state c.release.new.gpu in
+    keeps_trans c.args.frames.now d f z c.args.self.now c.replace.new.self c.release.new.self c.args.pins.now c.acquire_entry.new.pins c.release.new.pins
+    (keeps_trans c.args.frames.now d e f c.args.self.now c.acquire_entry.new.self c.replace.new.self c.args.pins.now c.acquire_entry.new.pins c.acquire_entry.new.pins c.in-Ok.ensures.keeps c.replace.ensures.keeps)
+    c.release.ensures.keeps
+
+pub returns-in_default-clause-pokes : goal.returns-in_default-clause-pokes
+returns-in_default-clause-pokes g c same =
+    let d = g.G.Gpu.state c.args.gpu.now in
+    let f = g.G.Gpu.state c.replace.new.gpu in
+    let t = c.args.self.now in
+    let u = c.replace.new.self in
+    let level = c.args.level in
+    let a = c.in-Ok.ensures in
+    let node = returns-in_default-clause-above g c level c.args.frame (omega arith) ∙ c.requires.node in
+    let reading : readings_of f u level c.args.frame c.args.index ≡ child_entry c.in-Ok.child = c.replace.ensures.enters.here in
+    let there = child_there level c.in-Ok.child (pages_of c.acquire_entry.new.self) (pages_of u) (pages_of t) (readings_of f u level c.args.frame c.args.index) reading a.there
+    (λ h lower is up one six. named-there f c.args.frames.now u.nodes u.chains u.owners.items u.told.items c.replace.ensures.holds.sound level c.args.frame c.args.page c.args.index h lower node c.requires.within is up one six) same in
+    let acquired = a.idle there in (
+      c.replace.ensures.pokes ∙ ap (λ (x : Device). counted x.pokes) acquired.0,
+      λ k q. ap (λ (x : Tables). pages_of x k q) c.replace.ensures.same ∙ acquired.1 k q,
     )

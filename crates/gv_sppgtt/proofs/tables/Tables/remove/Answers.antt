@@ -21,4 +21,4 @@ returns-clause-keeps g c =
     let d = g.G.Gpu.state c.args.gpu.now in
     let r = c.requires in
     let b = c.unboard.ensures in
-    rw c.release.ensures (keeps-gone d c.args.frames.now c.args.self.now c.unboard.new.self c.args.pins.now c.args.level c.args.frame c.args.page r.holds r.frame r.low r.high r.node r.none r.empty b.here b.others b.parents b.nodes b.frames b.owners b.chains b.told b.guest)
+    rw c.release.ensures (keeps-gone d c.args.frames.now c.args.self.now c.unboard.new.self c.args.pins.now c.args.level c.args.frame c.args.page r.holds r.frame r.low r.high r.node r.none r.empty b.here b.others b.parents b.nodes b.frames b.owners b.chains b.told b.guest b.touched)

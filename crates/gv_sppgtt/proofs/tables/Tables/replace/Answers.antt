@@ -7,7 +7,7 @@ use Rattle.gv_sppgtt.specs.State.{readings_of, parents_of}
 use Rattle.gv_sppgtt.proofs.Entered.{uses-entered}
 use Rattle.gv_entry.specs.declared.process.Process.TheVariants.{Absent}
 use Rattle.gv_sppgtt.specs.declared.tables.Tables.{Tables}
-use Rattle.gv_sppgtt.proofs.Poked.{holds-poked, keeps-poked, pinned-above}
+use Rattle.gv_sppgtt.proofs.Poked.{leaves-above, holds-poked, keeps-poked, pinned-above}
 use Rattle.gv_sppgtt.proofs.tables.Tables.replace.Goals as goal
 use Rattle.gv_shape.proofs.Levels.{names-it}
 
@@ -29,6 +29,7 @@ returns-clause-keeps g c =
     let p = c.put_table.ensures in
     keeps-poked d e c.args.frames.now c.args.self.now c.put_table.new.self c.args.pins.now c.args.level c.args.frame c.args.page c.args.index p.poke.0 c.requires.holds c.requires.node p.poke.1
     (ap (λ (x : Tables). x.nodes) p.same) (ap (λ (x : Tables). x.guest) p.same) (ap (λ (x : Tables). x.told) p.same)
+    c.args.pins.now (leaves-above d e c.args.frames.now c.args.self.now c.put_table.new.self c.args.pins.now c.args.level c.args.frame c.args.index (child_entry c.args.child) c.requires.high c.requires.few (c.requires.holds.sound.boarded.low c.args.level c.args.frame c.args.page c.requires.node).0 c.requires.within p.enters) (ap (λ (x : Tables). x.touched) p.same)
 
 pub returns-clause-held : goal.returns-clause-held
 returns-clause-held g c h lower reads up one six =
