@@ -1,2 +1,3 @@
 pub mod NodeMap
 pub mod Keys
+pub mod NodeOf

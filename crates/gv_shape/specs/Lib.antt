@@ -1,0 +1,3 @@
+pub mod Shadow
+pub mod Counts
+pub mod Shadows

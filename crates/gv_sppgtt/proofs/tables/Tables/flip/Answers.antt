@@ -1,0 +1,74 @@
+use Rattle.std.specs.List.{All}
+use Rattle.std.specs.Option.{IsSome}
+use Rattle.std.specs.Vec.{with_item}
+use Rattle.gv_rmap.specs.declared.leaf.Leaf.{Leaf}
+use Rattle.gv_rmap.specs.Leaves.{leaf_at, place, HasEachOnce}
+use Rattle.gv_rmap.specs.Chains.{chain_of}
+use Rattle.gv_sppgtt.proofs.Outside.{memory-shadow}
+use Rattle.std.proofs.Common.{◌≡◌, ◌<◌, ◌∷◌, [], List, Option, None, Some, length, sym, ap, ◌∙◌, refl, arith, subst}
+use Rattle.gv_sppgtt.proofs.Flips.{Flipping, known, flip-step, flip-holds}
+use Rattle.gv_sppgtt.proofs.tables.Tables.flip.Goals as goal
+
+pub loop-leaf-init : goal.loop-leaf-init
+loop-leaf-init g c =
+    let h = c.requires.holds in
+    record {
+      split = c.into_iter-leaf-iterator.ensures.into_iter_gives ∙ c.walk-leaf-items.ensures.leaves;
+      boarded = h.sound.boarded;
+      local = record { labelled = h.sound.local.labelled; names = h.sound.local.names };
+      readings = λ k f i. refl;
+      outside = refl;
+      own = refl;
+      live = refl;
+    }
+
+-- the walk has each leaf of the chain
+known_leaf : (c : List Leaf) (w : List Leaf) → w ≡ c → HasEachOnce c w → All (λ l. leaf_at c (place l) ≡ Some l) c
+known_leaf c w is each = subst (λ (x : List Leaf). All (λ l. leaf_at c (place l) ≡ Some l) x) is each.no_other
+
+pub poke-requires-clause-live : goal.poke-requires-clause-live
+poke-requires-clause-live g c =
+    let start = g.G.Gpu.state c.args.gpu.now in
+    let now = g.G.Gpu.state c.loop-leaf.gpu in
+    let t = c.args.self.now in
+    let leaf = c.in-Some.leaf in
+    let inv = subst (λ (r : List Leaf). Flipping start now c.args.frames.now t c.args.frame c.args.guarded c.loop-leaf.yielded r) c.in-Some.ensures.steps c.loop-leaf.invariant in
+    let all = known_leaf (chain_of t.chains c.args.frame) c.walk-leaf-items.result c.walk-leaf-items.ensures.leaves c.walk-leaf-items.ensures.each_once in
+    let k = known start now c.args.frames.now t c.args.pins.now c.args.frame c.args.guarded c.requires.holds c.loop-leaf.yielded c.next.new.self leaf inv all in
+    some_is _ _ (inv.local.labelled k.0 k.1 leaf.page k.2.1.0)
+  where
+    some_is : {A : Type 0} (o : Option A) (x : A) → o ≡ Some x → IsSome o
+    some_is (Some y) x e = refl
+    some_is None x e = cc
+
+pub poke-requires-clause-within : goal.poke-requires-clause-within
+poke-requires-clause-within g c =
+    let start = g.G.Gpu.state c.args.gpu.now in
+    let now = g.G.Gpu.state c.loop-leaf.gpu in
+    let t = c.args.self.now in
+    let leaf = c.in-Some.leaf in
+    let inv = subst (λ (r : List Leaf). Flipping start now c.args.frames.now t c.args.frame c.args.guarded c.loop-leaf.yielded r) c.in-Some.ensures.steps c.loop-leaf.invariant in
+    let all = known_leaf (chain_of t.chains c.args.frame) c.walk-leaf-items.result c.walk-leaf-items.ensures.leaves c.walk-leaf-items.ensures.each_once in
+    (known start now c.args.frames.now t c.args.pins.now c.args.frame c.args.guarded c.requires.holds c.loop-leaf.yielded c.next.new.self leaf inv all).2.1.1.0
+
+pub loop-leaf-preserved : goal.loop-leaf-preserved
+loop-leaf-preserved g c =
+    let start = g.G.Gpu.state c.args.gpu.now in
+    let now = g.G.Gpu.state c.loop-leaf.gpu in
+    let t = c.args.self.now in
+    let leaf = c.in-Some.leaf in
+    let inv = subst (λ (r : List Leaf). Flipping start now c.args.frames.now t c.args.frame c.args.guarded c.loop-leaf.yielded r) c.in-Some.ensures.steps c.loop-leaf.invariant in
+    let all = known_leaf (chain_of t.chains c.args.frame) c.walk-leaf-items.result c.walk-leaf-items.ensures.leaves c.walk-leaf-items.ensures.each_once in
+    rw (c.poke.ensures, c.leaf_word.ensures, c.page-host.ensures) (flip-step start now c.args.frames.now t c.args.pins.now c.args.frame c.args.guarded c.requires.holds c.loop-leaf.yielded c.next.new.self leaf inv all)
+
+pub returns-clause-holds : goal.returns-clause-holds
+returns-clause-holds g c =
+    let start = g.G.Gpu.state c.args.gpu.now in
+    let now = g.G.Gpu.state c.loop-leaf.gpu in
+    let t = c.args.self.now in
+    let inv = subst (λ (r : List Leaf). Flipping start now c.args.frames.now t c.args.frame c.args.guarded c.loop-leaf.yielded r) c.in-None.ensures.steps.0 c.loop-leaf.invariant in
+    flip-holds start now c.args.frames.now t c.args.pins.now c.args.frame c.args.guarded c.requires.holds (record t { told = with_item t.told c.args.frame c.args.guarded }) c.loop-leaf.yielded
+    (subst (λ n. c.args.frame < n) (sym c.requires.holds.sound.told_long) c.requires.frame) inv refl refl refl refl refl
+
+pub returns-clause-memory : goal.returns-clause-memory
+returns-clause-memory g c = memory-shadow (g.G.Gpu.state c.args.gpu.now) (g.G.Gpu.state c.loop-leaf.gpu) c.args.frames.now c.loop-leaf.invariant.outside c.requires.holds.stands

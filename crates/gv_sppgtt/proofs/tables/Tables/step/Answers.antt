@@ -1,0 +1,21 @@
+use Rattle.std.proofs.Common.{ℕ, ◌≡◌, ◌≤◌, ◌-◌, length, sym, ap, ◌∙◌, refl, arith}
+use Rattle.gv_guest.specs.Placed.{memory_in}
+use Rattle.gv_sppgtt.specs.State.{sketch_of}
+use Rattle.gv_sppgtt.proofs.Relinked.{rests-skipped}
+use Rattle.gv_sppgtt.proofs.Resting.{rests-live, rests-modest}
+use Rattle.gv_sppgtt.proofs.tables.Tables.step.Goals as goal
+
+pub returns-in_default-clause-rests : goal.returns-in_default-clause-rests
+returns-in_default-clause-rests g c roots rests =
+    let d = g.G.Gpu.state c.args.gpu.now in
+    rests-skipped (length c.args.frames.now.pages) (memory_in d c.args.frames.now) roots c.args.level c.args.frame c.args.index (sketch_of d c.args.self.now) c.in_default.ensures.none rests
+
+pub relink-requires-clause-modest : goal.relink-requires-clause-modest
+relink-requires-clause-modest g c h lower below =
+    let d = g.G.Gpu.state c.args.gpu.now in
+    rests-modest d c.args.frames.now c.args.self.now c.args.pins.now c.requires.rests.0 c.args.level c.args.frame c.args.index c.requires.holds c.requires.rests.1 lower
+
+pub returns-clause-bad : goal.returns-clause-bad
+returns-clause-bad g c is roots rests =
+    let d = g.G.Gpu.state c.args.gpu.now in
+    c.relink.ensures.bad is roots (rests-live d c.args.frames.now c.args.self.now c.args.pins.now roots c.args.level c.args.frame c.args.index c.requires.holds rests c.args.level c.args.frame c.in-Some.page c.requires.most (omega arith) c.in-Some.ensures.some)
