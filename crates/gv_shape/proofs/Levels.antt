@@ -57,8 +57,8 @@ names-it lower h six = ⊎_elim
     (cases_lt lower 5)
 
 -- and no other node
-pub place : (lower level h k f : ℕ) → 1 ≤ lower → lower ≤ 6 → above lower ≡ level → level ≤ 4 → 1 ≤ k → one_if (eqb k lower && eqb f h) ≡ one_if (eqb (above k) level) * one_if (names_node k f (naming lower h))
-place lower level h k f one six up four some = ⊎_elim
+pub naming-at : (lower level h k f : ℕ) → 1 ≤ lower → lower ≤ 6 → above lower ≡ level → level ≤ 4 → 1 ≤ k → one_if (eqb k lower && eqb f h) ≡ one_if (eqb (above k) level) * one_if (names_node k f (naming lower h))
+naming-at lower level h k f one six up four some = ⊎_elim
     (λ low. rw (naming-low lower h low) (⊎_elim
     (λ klow. let a = above-low k klow in let l = above-low lower low in let t = low_level k klow in rw (a, t) (table (let e = up in omega arith)))
     (λ khigh. let t = high_level k khigh in let n = ne_eqb k lower (λ e. let x = e in omega arith) in rw (t, n) (zero_times (eqb 2 level)))

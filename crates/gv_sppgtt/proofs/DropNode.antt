@@ -1,10 +1,11 @@
 -- A node goes: all of its words are absent, and no word names it.
 use Rattle.std.proofs.Common.{ℕ, zero, suc, ◌+◌, ◌*◌, ◌-◌, ◌/◌, ◌%◌, ◌^◌, ◌≤◌, ◌<◌, ◌≡◌, ◌≢◌, Bool, true, false, ◌&&◌, eqb, cond, List, [], Option, None, Some, length, get_or, is_some, refl, sym, ap, ◌∙◌, subst, arith, inl, inr, ⊎_elim, ◌⊎◌}
 use Rattle.std.proofs.lemmas.Bool.{cases_eq, eq-eqb, ne_eqb}
+use Rattle.gv_types.specs.Maps.{put}
 use Rattle.gv_entry.specs.declared.process.Process.{Process}
 use Rattle.gv_entry.specs.declared.process.Process.TheVariants.{Absent, Table, Page, Bad, Large}
 use Rattle.gv_entry.specs.Tables.{names}
-use Rattle.gv_gpu.specs.Device.{Device, put, released}
+use Rattle.gv_gpu.specs.Device.{Device, released}
 use Rattle.gv_gpu.specs.Part.{outside, is_shadow_of}
 use Rattle.gv_gpu.proofs.Changed.{outside-released}
 use Rattle.gv_guest.specs.Placed.{Placed, Stands}

@@ -10,7 +10,7 @@ use Rattle.gv_shape.specs.Counts.{total, uses, maps, one_if, namings, above, nam
 use Rattle.gv_sppgtt.specs.Sound.{Enters, IsBelow}
 use Rattle.gv_sppgtt.specs.Grown.{Sketch, Balanced, one_at, none_at, Dropped, Emptying, Emptied}
 use Rattle.gv_sppgtt.proofs.Entered.{uses-entered, uses-other}
-use Rattle.gv_shape.proofs.Levels.{place, rank-below}
+use Rattle.gv_shape.proofs.Levels.{naming-at, rank-below}
 
 module _ (frames level frame i : ℕ) (a b c : Sketch) (small : i < 512) where
   -- one more word is taken out
@@ -88,7 +88,7 @@ module _ (frames level frame index : ℕ) (a b : Sketch) (low : frame < frames) 
         let x = g.balanced k f some in
         let old : one_if (names_node k f (a.readings level frame index)) ≡ one_if (names_node k f (naming lower h)) = ap (λ r. one_if (names_node k f r)) table in
         let u = rw old at (uses_of k f) in
-        let at : one_at lower h k f ≡ one_if (eqb (above k) level) * one_if (names_node k f (naming lower h)) = place lower level h k f below.low below.six below.above below.four some in
+        let at : one_at lower h k f ≡ one_if (eqb (above k) level) * one_if (names_node k f (naming lower h)) = naming-at lower level h k f below.low below.six below.above below.four some in
         let p : b.parents k f ≡ a.parents k f = ap (λ q. q k f) parents in
         omega arith;
   }

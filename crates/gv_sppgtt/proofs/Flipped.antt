@@ -1,5 +1,5 @@
 -- A frame becomes guarded or unguarded: its leaves are rewritten one by one. In between each word has the
--- guards as they are at its own place.
+-- guards as they are at its own key.
 use Rattle.std.proofs.Common.{ℕ, ◌+◌, ◌*◌, ◌-◌, ◌/◌, ◌%◌, ◌^◌, ◌≤◌, ◌<◌, ◌≡◌, ◌≢◌, Bool, true, false, not, ◌&&◌, eqb, cond, List, Option, None, Some, length, get_or, set, get_or-set_same, get_or-set_other, refl, sym, ap, ◌∙◌, subst, arith, inl, inr, ⊎_elim, ◌⊎◌}
 use Rattle.std.proofs.lemmas.Bool.{cases_eq, eq-eqb, ne_eqb}
 use Rattle.gv_entry.specs.declared.process.Process.{Process}
@@ -10,7 +10,7 @@ use Rattle.gv_shape.specs.Shadow.{Pages, Readings, Names, Local, shadow_label, l
 use Rattle.gv_sppgtt.specs.Sound.{decode, reading_at, readings_in, Boarded}
 use Rattle.gv_sppgtt.proofs.Decoded.{decode-odd, leaf-odd, leaf-page, leaf-wanted, decode-leaf}
 
--- the guards at each place
+-- the guards at each key
 abbrev pub Guards : Type 0
 Guards = ℕ → ℕ → Bool
 
@@ -18,9 +18,9 @@ pub record LocalBy (d : Device) (placed : Placed) (pages : Pages) (guards : Guar
   pub labelled : (level frame p : ℕ) → pages level frame ≡ Some p → d.label p ≡ Some (shadow_label placed.guest)
   pub names : (level frame p i : ℕ) → pages level frame ≡ Some p → i < 512 → Names placed pages (guards (p * 2 ^ 16 + i)) level (readings level frame i) (get_or (d.words p) i 0)
 
--- the guards, but for one frame at one place
+-- the guards, but for one frame at one key
 abbrev pub with_guard : Guards → ℕ → ℕ → Bool → Guards
-with_guard guards q h new place frame = cond (eqb place q && eqb frame h) new (guards place frame)
+with_guard guards q h new key frame = cond (eqb key q && eqb frame h) new (guards key frame)
 
 -- other guards say the same of a word that maps another frame
 pub names-guards : (placed : Placed) (pages : Pages) (g k : ℕ → Bool) (level : ℕ) (e : Process) (word : ℕ) → ((h : ℕ) (w : Bool) → e ≡ Page h w → g h ≡ k h) → Names placed pages g level e word → Names placed pages k level e word
@@ -94,8 +94,8 @@ module _ (d : Device) (placed : Placed) (frames : ℕ) (pages : Pages) (guards :
         let at = pair k f p there same.0 in
         let reading : readings_in d.words owners pages k f i ≡ Page h w = ap (λ x. readings_in d.words owners pages x f i) at.0 ∙ ap (λ x. readings_in d.words owners pages level x i) at.1 ∙ ap (readings_in d.words owners pages level table) same.1 ∙ reads in
         let word : get_or (now.words p) i 0 ≡ value = ap (λ q. get_or (now.words q) i 0) same.0 ∙ ap (λ j. get_or (now.words page) j 0) same.1 ∙ word_here in
-        let place : p * 2 ^ 16 + i ≡ page * 2 ^ 16 + index = ap (λ q. q * 2 ^ 16 + i) same.0 ∙ ap (λ j. page * 2 ^ 16 + j) same.1 in
-        let guard : with_guard guards (page * 2 ^ 16 + index) h new (p * 2 ^ 16 + i) h ≡ new = rw (eq-eqb _ _ place, eq-eqb h h refl) refl in
+        let key : p * 2 ^ 16 + i ≡ page * 2 ^ 16 + index = ap (λ q. q * 2 ^ 16 + i) same.0 ∙ ap (λ j. page * 2 ^ 16 + j) same.1 in
+        let guard : with_guard guards (page * 2 ^ 16 + index) h new (p * 2 ^ 16 + i) h ≡ new = rw (eq-eqb _ _ key, eq-eqb h h refl) refl in
         subst (λ r. Names placed pages (with_guard guards (page * 2 ^ 16 + index) h new (p * 2 ^ 16 + i)) k r (get_or (now.words p) i 0)) (sym reading)
         (ap has_leaves at.0 ∙ leafy, form.1, word ∙ ap (leaf_word (get_or placed.pages h 0) w) (sym guard)))
         (λ apart.

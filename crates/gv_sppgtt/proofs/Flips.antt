@@ -11,7 +11,7 @@ use Rattle.gv_gpu.specs.Device.{Device, poked}
 use Rattle.gv_gpu.specs.Part.{outside}
 use Rattle.gv_guest.specs.Placed.{Placed}
 use Rattle.gv_rmap.specs.declared.leaf.Leaf.{Leaf}
-use Rattle.gv_rmap.specs.Leaves.{leaf_at, place}
+use Rattle.gv_rmap.specs.Leaves.{leaf_at, key}
 use Rattle.gv_rmap.specs.Chains.{chain_of}
 use Rattle.gv_shape.specs.Shadow.{Pages, Names, Local, leaf_word, has_leaves}
 use Rattle.gv_shape.specs.Shadow.{Readings}
@@ -25,7 +25,7 @@ use Rattle.gv_sppgtt.proofs.OwnPages.{own-poked, page-own}
 use Rattle.gv_sppgtt.proofs.Outside.{shadow-poked, stands-shadow, memory-shadow}
 
 abbrev pub guards_after : List Bool → ℕ → Bool → List Leaf → Guards
-guards_after told frame new done q x = cond (list_any (λ leaf. eqb (place leaf) q) done && eqb x frame) new (flag told x)
+guards_after told frame new done q x = cond (list_any (λ leaf. eqb (key leaf) q) done && eqb x frame) new (flag told x)
 
 pub record Flipping (start now : Device) (placed : Placed) (t : Tables) (frame : ℕ) (new : Bool) (done rest : List Leaf) : Type 0 where
   pub split : done ++ rest ≡ chain_of t.chains frame
@@ -49,21 +49,21 @@ truth false true false new t = refl
 truth false false true new t = refl
 truth false false false new t = refl
 
-more_guards : (told : List Bool) (frame : ℕ) (new : Bool) (ys : List Leaf) (leaf : Leaf) → guards_after told frame new (ys ++ leaf ∷ []) ≡ with_guard (guards_after told frame new ys) (place leaf) frame new
+more_guards : (told : List Bool) (frame : ℕ) (new : Bool) (ys : List Leaf) (leaf : Leaf) → guards_after told frame new (ys ++ leaf ∷ []) ≡ with_guard (guards_after told frame new ys) (key leaf) frame new
 more_guards told frame new ys leaf = λ i q x. at q x i
   where
-    at : (q x : ℕ) → guards_after told frame new (ys ++ leaf ∷ []) q x ≡ with_guard (guards_after told frame new ys) (place leaf) frame new q x
+    at : (q x : ℕ) → guards_after told frame new (ys ++ leaf ∷ []) q x ≡ with_guard (guards_after told frame new ys) (key leaf) frame new q x
     at q x =
-        ap (λ b. cond (b && eqb x frame) new (flag told x)) (list_any-append (λ l. eqb (place l) q) ys (leaf ∷ []))
-        ∙ truth (list_any (λ l. eqb (place l) q) ys) (eqb (place leaf) q) (eqb x frame) new (flag told x)
-        ∙ ap (λ b. cond (b && eqb x frame) new (guards_after told frame new ys q x)) (same_eqb (place leaf) q)
+        ap (λ b. cond (b && eqb x frame) new (flag told x)) (list_any-append (λ l. eqb (key l) q) ys (leaf ∷ []))
+        ∙ truth (list_any (λ l. eqb (key l) q) ys) (eqb (key leaf) q) (eqb x frame) new (flag told x)
+        ∙ ap (λ b. cond (b && eqb x frame) new (guards_after told frame new ys q x)) (same_eqb (key leaf) q)
 
 -- what is found is there
-found_any : (q : ℕ) (xs : List Leaf) (leaf : Leaf) → leaf_at xs q ≡ Some leaf → list_any (λ l. eqb (place l) q) xs ≡ true
+found_any : (q : ℕ) (xs : List Leaf) (leaf : Leaf) → leaf_at xs q ≡ Some leaf → list_any (λ l. eqb (key l) q) xs ≡ true
 found_any q [] leaf e = cc
-found_any q (x ∷ xs) leaf e = by (found_any q xs leaf) (eqb (place x) q) e
+found_any q (x ∷ xs) leaf e = by (found_any q xs leaf) (eqb (key x) q) e
   where
-    by : (leaf_at xs q ≡ Some leaf → list_any (λ l. eqb (place l) q) xs ≡ true) → (b : Bool) → cond b (Some x) (leaf_at xs q) ≡ Some leaf → (b || list_any (λ l. eqb (place l) q) xs) ≡ true
+    by : (leaf_at xs q ≡ Some leaf → list_any (λ l. eqb (key l) q) xs ≡ true) → (b : Bool) → cond b (Some x) (leaf_at xs q) ≡ Some leaf → (b || list_any (λ l. eqb (key l) q) xs) ≡ true
     by again true e = refl
     by again false e = again e
 
@@ -76,15 +76,15 @@ inside xs ys leaf = grind (arith, common_steps)
 
 module _ (start now : Device) (placed : Placed) (t : Tables) (pins : List ℕ) (frame : ℕ) (new : Bool) (h : Holds start placed t pins) where
   module _ (done rest : List Leaf) (leaf : Leaf) (g : Flipping start now placed t frame new done (leaf ∷ rest))
-      (no_other : All (λ l. leaf_at (chain_of t.chains frame) (place l) ≡ Some l) (chain_of t.chains frame)) where
-    there : leaf_at (chain_of t.chains frame) (place leaf) ≡ Some leaf
+      (no_other : All (λ l. leaf_at (chain_of t.chains frame) (key l) ≡ Some l) (chain_of t.chains frame)) where
+    there : leaf_at (chain_of t.chains frame) (key leaf) ≡ Some leaf
     there =
         let at = no_other (length done) leaf (subst (λ (l : List Leaf). length done < length l) g.split (inside done rest leaf)) in
         let is : get_or (chain_of t.chains frame) (length done) leaf ≡ leaf = ap (λ (l : List Leaf). get_or l (length done) leaf) (sym g.split) ∙ middle done rest leaf in
-        subst (λ (l : Leaf). leaf_at (chain_of t.chains frame) (place l) ≡ Some l) is at
+        subst (λ (l : Leaf). leaf_at (chain_of t.chains frame) (key l) ≡ Some l) is at
 
-    pub known : (k f : ℕ) × ((has_leaves k ≡ true) × ((pages_of t k f ≡ Some leaf.page) × ((leaf.index < 512) × ((place leaf ≡ place leaf) × (readings_of start t k f leaf.index ≡ Page frame leaf.writable)))))
-    known = h.sound.chained.leaves frame (place leaf) leaf there
+    pub known : (k f : ℕ) × ((has_leaves k ≡ true) × ((pages_of t k f ≡ Some leaf.page) × ((leaf.index < 512) × ((key leaf ≡ key leaf) × (readings_of start t k f leaf.index ≡ Page frame leaf.writable)))))
+    known = h.sound.chained.leaves frame (key leaf) leaf there
 
     abbrev after : Device
     after = poked now leaf.page leaf.index (leaf_word (get_or placed.pages frame 0) leaf.writable new)
@@ -140,9 +140,9 @@ module _ (start now : Device) (placed : Placed) (t : Tables) (pins : List ℕ) (
         let start_reads : readings_of start t k f i ≡ Page frame w = sym (g.readings k f i) ∙ e ∙ ap (λ z. Page z w) same in
         let at = h.sound.chained.linked k f p i frame w leafy is small start_reads in
         let whole : done ≡ chain_of t.chains frame = sym (no_more done) ∙ g.split in
-        let any : list_any (λ l. eqb (place l) (p * 2 ^ 16 + i)) done ≡ true = ap (list_any (λ l. eqb (place l) (p * 2 ^ 16 + i))) whole ∙ found_any (p * 2 ^ 16 + i) (chain_of t.chains frame) _ at in
+        let any : list_any (λ l. eqb (key l) (p * 2 ^ 16 + i)) done ≡ true = ap (list_any (λ l. eqb (key l) (p * 2 ^ 16 + i))) whole ∙ found_any (p * 2 ^ 16 + i) (chain_of t.chains frame) _ at in
         ap (λ b. cond (b && eqb x frame) new (flag t.told.items x)) any ∙ ap (λ b. cond b new (flag t.told.items x)) (eq-eqb x frame same) ∙ sym (ap (flag (set t.told.items frame new)) same ∙ get_or-set_same t.told.items frame new false low))
-        (λ other. ap (λ b. cond b new (flag t.told.items x)) (off (list_any (λ l. eqb (place l) (p * 2 ^ 16 + i)) done) (eqb x frame) (ne_eqb x frame other)) ∙ sym (get_or-set_other t.told.items frame x new false other))
+        (λ other. ap (λ b. cond b new (flag t.told.items x)) (off (list_any (λ l. eqb (key l) (p * 2 ^ 16 + i)) done) (eqb x frame) (ne_eqb x frame other)) ∙ sym (get_or-set_other t.told.items frame x new false other))
         (cases_eq x frame))
         (g.local.names k f p i is small);
   }

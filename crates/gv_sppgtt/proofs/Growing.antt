@@ -12,7 +12,7 @@ use Rattle.gv_sppgtt.specs.Sound.{Enters, IsBelow}
 use Rattle.gv_shape.proofs.Totals.{total-same}
 use Rattle.gv_sppgtt.specs.Grown.{Sketch, Balanced, one_at, none_at, Kept, Made, Growing, Filled, Modest}
 use Rattle.gv_sppgtt.proofs.Entered.{uses-entered, uses-other}
-use Rattle.gv_shape.proofs.Levels.{place, rank-below}
+use Rattle.gv_shape.proofs.Levels.{naming-at, rank-below}
 
 some_or_none : {A : Type 0} (o : Option A) (P : Type 0) → ((x : A) → o ≡ Some x → P) → (o ≡ None → P) → P
 some_or_none (Some x) P some none = some x refl
@@ -106,7 +106,7 @@ module _ (frames : ℕ) (m : Memory) (level frame index : ℕ) (e : Process) (a 
         let y = uses_of k f in
         let old : one_if (names_node k f (b.readings level frame index)) ≡ 0 = names_absent k f (b.readings level frame index) (g.same level frame n index there small ∙ was) in
         let new : one_if (names_node k f e) ≡ one_if (names_node k f (naming lower h)) = ap (λ r. one_if (names_node k f r)) table in
-        let at : one_at lower h k f ≡ one_if (eqb (above k) level) * one_if (names_node k f (naming lower h)) = place lower level h k f below.low below.six below.above below.four one in
+        let at : one_at lower h k f ≡ one_if (eqb (above k) level) * one_if (names_node k f (naming lower h)) = naming-at lower level h k f below.low below.six below.above below.four one in
         let p : c.parents k f ≡ b.parents k f = ap (λ q. q k f) parents in
         let z = rw (old, new) at y in
         omega arith;
@@ -214,7 +214,7 @@ pub room-grown : (frames : ℕ) (m : Memory) (level h lower : ℕ) (a b : Sketch
 room-grown frames m level h lower a b g counted below k f one up =
     let x = g.balanced k f one in
     let y = counted k f one in
-    let at = place lower level h k f below.low below.six below.above below.four one in
+    let at = naming-at lower level h k f below.low below.six below.above below.four one in
     let t = eq-eqb (above k) level up in
     let same : one_if (eqb k lower && eqb f h) ≡ one_if (names_node k f (naming lower h)) = at ∙ rw t (let z = one_if (names_node k f (naming lower h)) in omega arith) in
     omega arith

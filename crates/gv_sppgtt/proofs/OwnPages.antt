@@ -6,9 +6,10 @@ use Rattle.std.specs.Ordering.{nat_cmp, eq_by_cmp}
 use Rattle.std.proofs.lemmas.Bool.{cases_eq, eqb-true, eq-eqb, ne_eqb}
 use Rattle.std.proofs.lemmas.List.Folds.{list_any-append}
 use Rattle.std.proofs.lemmas.List.Concat.{flat_map-cons}
+use Rattle.gv_types.specs.Maps.{put}
 use Rattle.gv_types.specs.declared.ids.Label.{Label}
 use Rattle.gv_types.specs.Memory.{zero_words}
-use Rattle.gv_gpu.specs.Device.{Device, put, added, released, poked}
+use Rattle.gv_gpu.specs.Device.{Device, added, released, poked}
 use Rattle.gv_gpu.specs.Part.{Part, Within, outside, is_named, is_shadow_of, tables_part}
 use Rattle.gv_gpu.proofs.Changed.{outside-poked}
 use Rattle.gv_nodes.specs.declared.nodes.Node.{Node}

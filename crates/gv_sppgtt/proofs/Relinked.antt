@@ -11,7 +11,7 @@ use Rattle.gv_shape.specs.Counts.{total, uses, maps, one_if, is_among, above, na
 use Rattle.gv_sppgtt.specs.Sound.{Enters, IsBelow}
 use Rattle.gv_sppgtt.specs.Grown.{Sketch, Balanced, one_at, none_at, Kept, Growing, Dropped, Rests, Acquired, Released}
 use Rattle.gv_sppgtt.proofs.Entered.{uses-entered, uses-other}
-use Rattle.gv_shape.proofs.Levels.{place, rank-below}
+use Rattle.gv_shape.proofs.Levels.{naming-at, rank-below}
 
 some_or_none : {A : Type 0} (o : Option A) (P : Type 0) → ((x : A) → o ≡ Some x → P) → (o ≡ None → P) → P
 some_or_none (Some x) P some none = some x refl
@@ -23,7 +23,7 @@ acquired-table frames m level h lower a b below g = record {
   same = g.same;
   fresh = λ k f p i none is low. let up = g.upto k f p none is in let near = rank-below lower level below.low below.above below.high below.four in (omega arith, g.fresh k f p i none is low (λ _ _. low));
   alive = g.alive;
-  balanced = λ k f one. g.balanced k f one ∙ ap (λ n. a.parents k f + namings frames b.readings k f + n) (place lower level h k f below.low below.six below.above below.four one);
+  balanced = λ k f one. g.balanced k f one ∙ ap (λ n. a.parents k f + namings frames b.readings k f + n) (naming-at lower level h k f below.low below.six below.above below.four one);
 }
 
 pub released-table : (frames level h lower : ℕ) (a b : Sketch) → IsBelow frames level h lower → Dropped frames lower h a b → Released frames level (naming lower h) a b
@@ -31,7 +31,7 @@ released-table frames level h lower a b below g = record {
   within = g.within;
   same = g.same;
   alive = g.alive;
-  balanced = λ k f one. ap (λ n. b.parents k f + namings frames a.readings k f + n) (sym (place lower level h k f below.low below.six below.above below.four one)) ∙ g.balanced k f one;
+  balanced = λ k f one. ap (λ n. b.parents k f + namings frames a.readings k f + n) (sym (naming-at lower level h k f below.low below.six below.above below.four one)) ∙ g.balanced k f one;
 }
 
 -- what names no table is neither acquired nor released

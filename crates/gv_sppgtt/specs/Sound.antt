@@ -9,7 +9,7 @@ use Rattle.gv_guest.specs.Placed.{Placed}
 use Rattle.gv_nodes.specs.declared.nodes.Node.{Node}
 use Rattle.gv_nodes.specs.NodeMap.{NodeMap}
 use Rattle.gv_rmap.specs.declared.leaf.Leaf.{Leaf}
-use Rattle.gv_rmap.specs.Leaves.{leaf_at, place}
+use Rattle.gv_rmap.specs.Leaves.{leaf_at, key}
 use Rattle.gv_rmap.specs.Chains.{ReverseMap, chain_of}
 use Rattle.gv_sppgtt.specs.declared.tables.Child.{Child}
 use Rattle.gv_sppgtt.specs.declared.tables.Word.{Word}
@@ -69,7 +69,7 @@ pub record Boarded (d : Device) (frames : ℕ) (pages : Pages) (owners : List �
 -- the chains are the leaves
 pub record Chained (pages : Pages) (readings : Readings) (chains : ReverseMap) : Type 0 where
   pub linked : (k f p i h : ℕ) (w : Bool) → has_leaves k ≡ true → pages k f ≡ Some p → i < 512 → readings k f i ≡ Page h w → leaf_at (chain_of chains h) (p * 2 ^ 16 + i) ≡ Some (leaf_of p i w)
-  pub leaves : (h q : ℕ) (leaf : Leaf) → leaf_at (chain_of chains h) q ≡ Some leaf → (k f : ℕ) × ((has_leaves k ≡ true) × ((pages k f ≡ Some leaf.page) × ((leaf.index < 512) × ((q ≡ place leaf) × (readings k f leaf.index ≡ Page h leaf.writable)))))
+  pub leaves : (h q : ℕ) (leaf : Leaf) → leaf_at (chain_of chains h) q ≡ Some leaf → (k f : ℕ) × ((has_leaves k ≡ true) × ((pages k f ≡ Some leaf.page) × ((leaf.index < 512) × ((q ≡ key leaf) × (readings k f leaf.index ≡ Page h leaf.writable)))))
 
 -- no node is named more often than it has parents
 abbrev pub Counted : ℕ → (ℕ → ℕ → ℕ) → Readings → Type 0
@@ -108,7 +108,7 @@ abbrev pub leaf_entry : Option (ℕ × Bool) → Process
 leaf_entry None = Absent
 leaf_entry (Some to) = Page to.0 to.1
 
--- the leaf that stands at a place of a frame's chain where the word there stands for this
+-- the leaf that stands at a key of a frame's chain where the word there stands for this
 abbrev pub place_leaf : ℕ → ℕ → ℕ → Process → Option Leaf
 place_leaf page index h (Page f w) = if f == h then Some (leaf_of page index w) else None
 place_leaf page index h other = None

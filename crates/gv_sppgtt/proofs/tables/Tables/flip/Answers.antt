@@ -2,7 +2,7 @@ use Rattle.std.specs.List.{All}
 use Rattle.std.specs.Option.{IsSome}
 use Rattle.std.specs.Vec.{with_item}
 use Rattle.gv_rmap.specs.declared.leaf.Leaf.{Leaf}
-use Rattle.gv_rmap.specs.Leaves.{leaf_at, place, HasEachOnce}
+use Rattle.gv_rmap.specs.Leaves.{leaf_at, key, HasEachOnce}
 use Rattle.gv_rmap.specs.Chains.{chain_of}
 use Rattle.gv_sppgtt.proofs.Outside.{memory-shadow}
 use Rattle.std.proofs.Common.{◌≡◌, ◌<◌, ◌∷◌, [], List, Option, None, Some, length, sym, ap, ◌∙◌, refl, arith, subst}
@@ -23,8 +23,8 @@ loop-leaf-init g c =
     }
 
 -- the walk has each leaf of the chain
-known_leaf : (c : List Leaf) (w : List Leaf) → w ≡ c → HasEachOnce c w → All (λ l. leaf_at c (place l) ≡ Some l) c
-known_leaf c w is each = subst (λ (x : List Leaf). All (λ l. leaf_at c (place l) ≡ Some l) x) is each.no_other
+known_leaf : (c : List Leaf) (w : List Leaf) → w ≡ c → HasEachOnce c w → All (λ l. leaf_at c (key l) ≡ Some l) c
+known_leaf c w is each = subst (λ (x : List Leaf). All (λ l. leaf_at c (key l) ≡ Some l) x) is each.no_other
 
 pub poke-requires-clause-live : goal.poke-requires-clause-live
 poke-requires-clause-live g c =
