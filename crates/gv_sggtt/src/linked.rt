@@ -115,7 +115,7 @@ impl LinkedEntries {
         ensures values { self.new.values ≡ slice_set self.old.values place 0 }
         ensures frames { self.new.frames ≡ self.old.frames }
     {
-        let frame = global_of(self.entries.get(place), self.frames);
+        let frame = self.frame(place);
         unlink(&mut self.chains, frame, place);
         self.entries.set(place, 0);
     }
