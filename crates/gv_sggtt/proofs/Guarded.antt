@@ -1,5 +1,5 @@
 -- A frame is guarded, or no longer: its physical entries are those of the table again.
-use Rattle.std.proofs.Common.{◌≡◌, ◌≢◌, ℕ, ◌<◌, List, Bool, true, false, cond, eqb, Option, None, Some, length, refl, ap, sym, ◌∙◌, subst, arith}
+use Rattle.std.proofs.Common.{◌≡◌, ◌≢◌, ℕ, ◌<◌, Bool, true, false, cond, Option, None, Some, length, refl, ap, sym, ◌∙◌, subst, arith}
 use Rattle.std.proofs.lemmas.Bool.{eq-eqb, false≢true}
 use Rattle.std.proofs.lemmas.Bool.Decides.{nat_tests}
 use Rattle.std.proofs.lemmas.List.{get_or-set_same}
@@ -14,7 +14,7 @@ use Rattle.gv_sggtt.specs.Table.{Table, table_entry, table_grant, table_guarding
 use Rattle.gv_sggtt.proofs.OwnPins.{other-grant}
 use Rattle.gv_sggtt.proofs.Written.{grant-owned}
 
-same_frame : (frame : ℕ) (o : Option ℕ) → is_frame frame o ≡ true → o ≡ Some frame
+pub same_frame : (frame : ℕ) (o : Option ℕ) → is_frame frame o ≡ true → o ≡ Some frame
 same_frame frame None is = absurd (false≢true is)
 same_frame frame (Some k) is = let same : k ≡ frame = grind (arith, nat_tests) in ap (λ n. Some n) same
 

@@ -1,8 +1,7 @@
 -- The chain of the entries that pass a test, as entries are set.
-use Rattle.std.proofs.Common.{◌≡◌, ◌≢◌, ℕ, ◌+◌, ◌*◌, ◌^◌, ◌/◌, ◌%◌, ◌<◌, ◌≤◌, List, [], ◌∷◌, Bool, true, false, not, cond, eqb, zero, suc, length, get_or, set, count_by, sum_by, Option, None, Some, IsSome, refl, ap, sym, ◌∙◌, subst, zero-add, arith}
-use Rattle.std.specs.Prelude.{nat_lt, find, filter, All, Contains}
+use Rattle.std.proofs.Common.{◌≡◌, ℕ, ◌+◌, ◌*◌, ◌/◌, ◌%◌, ◌<◌, List, [], ◌∷◌, Bool, true, false, cond, eqb, zero, suc, length, get_or, set, count_by, None, IsSome, refl, ap, sym, ◌∙◌, subst, zero-add, arith}
+use Rattle.std.specs.Prelude.{nat_lt, All, Contains}
 use Rattle.std.proofs.lemmas.Bool.Decides.{nat_tests}
-use Rattle.std.proofs.lemmas.Grind.{common_steps}
 use Rattle.std.proofs.lemmas.List.Elements.{All-nil, All-cons, All-weaker}
 use Rattle.std.proofs.lemmas.List.Sums.{sum_by-cons}
 use Rattle.gv_rmap.specs.declared.leaf.Leaf.{Leaf}

@@ -1,3 +1,4 @@
+pub mod Granted
 pub mod Guarded
 pub mod Kept
 pub mod Leaves

@@ -1,5 +1,5 @@
 -- The chains as an entry is set to 0, and as one of 0 is set.
-use Rattle.std.proofs.Common.{◌≡◌, ◌≢◌, ℕ, ◌+◌, ◌<◌, ◌≤◌, List, [], zero, suc, Bool, true, false, cond, eqb, length, get_or, set, replicate, count_by, Option, None, Some, IsSome, refl, ap, sym, ◌∙◌, subst, ⊎_elim, arith}
+use Rattle.std.proofs.Common.{◌≡◌, ◌≢◌, ℕ, ◌+◌, ◌<◌, ◌≤◌, List, [], zero, suc, Bool, true, false, cond, length, get_or, set, replicate, count_by, Option, None, Some, IsSome, refl, ap, sym, ◌∙◌, subst, ⊎_elim, arith}
 use Rattle.std.specs.Prelude.{is_none, IfSome}
 use Rattle.std.proofs.lemmas.Bool.{cases_eq, eq-eqb}
 use Rattle.std.proofs.lemmas.Bool.Decides.{nat_tests}

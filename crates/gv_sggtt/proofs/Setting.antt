@@ -1,12 +1,11 @@
 -- The physical entries of all pages whose entries name a frame are set, one by one.
-use Rattle.std.proofs.Common.{◌≡◌, ◌≢◌, ℕ, ◌+◌, ◌*◌, ◌^◌, ◌<◌, ◌≤◌, List, [], ◌∷◌, Bool, true, false, zero, suc, length, get_or, count_by, Option, None, Some, ◌⊎◌, inl, inr, refl, ap, sym, ◌∙◌, subst, ⊎_elim, arith}
+use Rattle.std.proofs.Common.{◌≡◌, ◌≢◌, ℕ, ◌+◌, ◌*◌, ◌<◌, List, [], ◌∷◌, true, false, zero, suc, length, get_or, count_by, Option, None, Some, ◌⊎◌, inl, inr, refl, ap, sym, ◌∙◌, subst, ⊎_elim, arith}
 use Rattle.std.specs.Prelude.{All, Contains}
 use Rattle.std.proofs.lemmas.Bool.{cases_eq, false≢true}
 use Rattle.std.proofs.lemmas.Grind.{common_steps}
 use Rattle.std.proofs.lemmas.List.Elements.{All-head, All-tail}
 use Rattle.gv_types.specs.Maps.{put}
 use Rattle.gv_types.specs.declared.ranges.Ranges.{Ranges}
-use Rattle.gv_entry.specs.Entry.{global_frame}
 use Rattle.gv_entry.specs.Global.{slot_of, pages_of, entry_at}
 use Rattle.gv_entry.specs.Ranges.{InParts, owns_page}
 use Rattle.gv_gpu.specs.Change.{ChangesOnly}

@@ -1,7 +1,7 @@
 -- The pins of a table: one on a frame for each owned entry that grants it.
-use Rattle.std.specs.Prelude.{◌≡◌, ℕ, ◌+◌, ◌^◌, ◌<◌, ◌≤◌, List, length, count_by, slice_index}
+use Rattle.std.specs.Prelude.{◌≡◌, ℕ, ◌+◌, ◌^◌, ◌<◌, ◌≤◌, List, Some, length, count_by, slice_index}
 use Rattle.gv_sggtt.specs.Linked.{is_frame}
-use Rattle.gv_sggtt.specs.Table.{Table, entry_grant}
+use Rattle.gv_sggtt.specs.Table.{Table, table_grant, entry_grant}
 
 abbrev pub table_pins : Table → ℕ → ℕ
 table_pins t frame = count_by (λ entry. is_frame frame (entry_grant t entry)) t.entries
@@ -16,3 +16,8 @@ pub record HasPins (t : Table) (pins : List ℕ) : Type 0 where
 pub record ChangesOwnPins (old new : Table) (before after : List ℕ) : Type 0 where
   pub frames : length after ≡ length before
   pub each : (frame : ℕ) → frame < length before → slice_index after frame + table_pins old frame ≡ slice_index before frame + table_pins new frame
+
+-- The table has a pin on a frame exactly where an owned page grants the frame.
+pub record PinsGranted (t : Table) : Type 0 where
+  pub each : (page frame : ℕ) → table_grant t page ≡ Some frame → 1 ≤ table_pins t frame
+  pub no_other : (frame : ℕ) → 1 ≤ table_pins t frame → (page : ℕ) × (table_grant t page ≡ Some frame)

@@ -1,6 +1,6 @@
 -- One guest's global table: its ranges, how many frames it has, the entries of its ranges, and which frames it was
 -- told to guard.
-use Rattle.std.specs.Prelude.{◌≡◌, ℕ, ◌≤◌, List, Bool, true, false, Option, length, replicate, slice_index_or, slice_set}
+use Rattle.std.specs.Prelude.{◌≡◌, ℕ, ◌≤◌, List, Bool, false, Option, length, replicate, slice_index_or, slice_set}
 use Rattle.gv_types.specs.declared.ranges.Ranges.{Ranges}
 use Rattle.gv_entry.specs.Entry.{global_frame}
 use Rattle.gv_entry.specs.Global.{entry_of, pages_of, with_entry, zero_entries}

@@ -115,7 +115,7 @@ impl LinkedEntries {
         ensures values { self.new.values ≡ slice_set self.old.values slot 0 }
         ensures frames { self.new.frames ≡ self.old.frames }
     {
-        let frame = global_of(self.entries.get(slot), self.frames);
+        let frame = self.frame(slot);
         unlink(&mut self.chains, frame, slot);
         self.entries.set(slot, 0);
     }

@@ -8,7 +8,7 @@ ghost use Rattle.gv_gpu.specs.Part.{entries_part};
 ghost use Rattle.gv_guest.specs.Placed.{Stands, KeepsMemory};
 ghost use Rattle.gv_sggtt.specs.Linked.{is_frame, names};
 ghost use Rattle.gv_sggtt.specs.Mirror.{Mirrors, NamesFrame, SetsEntries};
-ghost use Rattle.gv_sggtt.specs.Pins.{HasPins, ChangesOwnPins};
+ghost use Rattle.gv_sggtt.specs.Pins.{HasPins, ChangesOwnPins, PinsGranted};
 ghost use Rattle.gv_sggtt.specs.Table.{zero_table, table_entry, table_written, table_grant, table_guarding, guards};
 
 use crate::linked::{LinkedEntries, slot_of_leaf};
@@ -217,6 +217,7 @@ impl GlobalTable {
     pub fn granted(&self, page: u32) -> Option<u32>
         ensures grant { result ≡ table_grant self.now page }
         ensures there { IfSome result (λ frame. frame < self.now.frames) }
+        ensures pinned { PinsGranted self.now }
     {
         let slot = slot_of(&self.ranges, page)?;
         unguarded(&self.guarded, self.entries.frame(slot))

@@ -2,10 +2,12 @@
 ghost use Rattle.std.specs.Prelude.{◌≡◌, IfOk, length};
 ghost use Rattle.gv_guest.specs.Placed.{Stands};
 ghost use Rattle.gv_sggtt.specs.Mirror.{Mirrors};
+ghost use Rattle.gv_sggtt.specs.Pins.{HasPins};
+ghost use Rattle.gv_sggtt.specs.Table.{zero_table};
 
 use gv_engine::SoftGpu;
 use gv_gpu::Gpu;
-use gv_guest::Memory;
+use gv_guest::{Memory, PageMove};
 use gv_sggtt::GlobalTable;
 use gv_types::{GuestId, OutOfMemory, Ranges, Span, Width};
 use std::alloc::Global;
@@ -24,6 +26,8 @@ fn guest(alloc: Global) -> Result<(SoftGpu, Memory, GlobalTable), OutOfMemory>
     ensures stands { IfOk result (λ made. Stands (⟦<SoftGpu as Gpu>⟧.state made.0) made.1.frames) }
     ensures frames { IfOk result (λ made. length made.1.frames.pages ≡ made.2.frames) }
     ensures mirrors { IfOk result (λ made. Mirrors (⟦<SoftGpu as Gpu>⟧.state made.0) made.2 made.1.frames) }
+    ensures pinned { IfOk result (λ made. HasPins made.2 made.1.pins) }
+    ensures table { IfOk result (λ made. made.2 ≡ zero_table RANGES 2) }
 {
     let mut gpu = SoftGpu::new(alloc);
     let memory = Memory::new(alloc, &mut gpu, GuestId(0), 2)?;
@@ -33,10 +37,10 @@ fn guest(alloc: Global) -> Result<(SoftGpu, Memory, GlobalTable), OutOfMemory>
 
 #[test]
 fn entries_of_two_ranges(rt: HostRuntime) -> Result<(), Fail> {
-    let (mut gpu, memory, mut table) = guest(rt.alloc())?;
-    table.write_entry(&mut gpu, &memory.frames, 3, 0x1001);
-    table.write_entry(&mut gpu, &memory.frames, 5, 0x1001);
-    table.write_entry(&mut gpu, &memory.frames, 65_536, 0x2001);
+    let (mut gpu, mut memory, mut table) = guest(rt.alloc())?;
+    table.write_entry(&mut gpu, &mut memory, 3, 0x1001);
+    table.write_entry(&mut gpu, &mut memory, 5, 0x1001);
+    table.write_entry(&mut gpu, &mut memory, 65_536, 0x2001);
     for (page, entry, frame) in [
         (3, 0, None),
         (4, 0, None),
@@ -47,8 +51,53 @@ fn entries_of_two_ranges(rt: HostRuntime) -> Result<(), Fail> {
         assert_eq!(rt; table.entry(page), entry);
         assert_eq!(rt; table.granted(page), frame);
     }
-    table.clear(&mut gpu, &memory.frames);
+    table.clear(&mut gpu, &mut memory);
     assert_eq!(rt; table.entry(5), 0);
+    Ok(())
+}
+
+// Two entries name frame 1, one of them twice over. Guarding the frame takes their pins and their grants, and
+// gives them back with it.
+#[test]
+fn a_frame_is_guarded(rt: HostRuntime) -> Result<(), Fail> {
+    let (mut gpu, mut memory, mut table) = guest(rt.alloc())?;
+    table.write_entry(&mut gpu, &mut memory, 4, 0x1001);
+    table.write_entry(&mut gpu, &mut memory, 5, 0x1003);
+    table.write_entry(&mut gpu, &mut memory, 5, 0x1001);
+    assert_eq!(rt; memory.pins(0), 0);
+    assert_eq!(rt; memory.pins(1), 2);
+    table.guard(&mut gpu, &mut memory, 1);
+    assert_eq!(rt; memory.pins(1), 0);
+    assert_eq!(rt; table.granted(5), None);
+    assert_eq!(rt; table.entry(5), 0x1001);
+    table.write_entry(&mut gpu, &mut memory, 4, 0);
+    table.unguard(&mut gpu, &mut memory, 1);
+    assert_eq!(rt; memory.pins(1), 1);
+    assert_eq!(rt; table.granted(4), None);
+    assert_eq!(rt; table.granted(5), Some(1));
+    table.guard(&mut gpu, &mut memory, 0);
+    table.clear(&mut gpu, &mut memory);
+    assert_eq!(rt; memory.pins(1), 0);
+    assert_eq!(rt; table.granted(5), None);
+    Ok(())
+}
+
+// A pinned frame is kept. The other one goes into another page, with its words.
+#[test]
+fn a_frame_moves(rt: HostRuntime) -> Result<(), Fail> {
+    let mut gpu = SoftGpu::new(rt.alloc());
+    let mut memory = Memory::new(rt.alloc(), &mut gpu, GuestId(0), 2)?;
+    memory.write(&mut gpu, 0x1008, Width::Eight, 9);
+    memory.pin(0);
+    assert_eq!(rt; memory.pins(0), 1);
+    let (first, second) = (memory.page(0), memory.page(1));
+    assert_eq!(rt; memory.move_page(&mut gpu, 0)?, PageMove::Kept);
+    assert_eq!(rt; memory.move_page(&mut gpu, 1)?, PageMove::Moved);
+    assert_eq!(rt; memory.page(0), first);
+    assert!(rt; memory.page(1) != second);
+    assert_eq!(rt; memory.read(&gpu, 0x1008, Width::Eight), 9);
+    memory.unpin(0);
+    assert_eq!(rt; memory.move_page(&mut gpu, 0)?, PageMove::Moved);
     Ok(())
 }
 

@@ -1,7 +1,5 @@
-use Rattle.std.proofs.Common.{◌≡◌, ℕ, ◌+◌, ◌*◌, ◌<◌, List, Option, Some, IsSome, length, sym, ap, ◌∙◌, subst, arith}
+use Rattle.std.proofs.Common.{ℕ, List, Option, Some, IsSome, sym, ap, ◌∙◌, subst, arith}
 use Rattle.gv_types.specs.declared.ids.Label.{Label}
-use Rattle.gv_entry.specs.Global.{slot_of}
-use Rattle.gv_gpu.specs.Device.{Device}
 use Rattle.gv_rmap.specs.declared.leaf.Leaf.{Leaf}
 use Rattle.gv_sggtt.proofs.Slots.{slot-within}
 use Rattle.gv_sggtt.proofs.Setting.{Setting, setting-first, setting-next, setting-done, slot-there}

@@ -1,4 +1,4 @@
-use Rattle.std.proofs.Common.{◌≡◌, ◌<◌, get_or, ap, ◌++◌, ◌∷◌, [], List, ℕ, length, replicate, MatchOption, Option, set, sym, ◌∙◌, subst, arith, refl}
+use Rattle.std.proofs.Common.{◌≡◌, get_or, ap, ◌++◌, ◌∷◌, [], List, ℕ, length, replicate, MatchOption, Option, set, sym, ◌∙◌, subst, arith, refl}
 use Rattle.std.proofs.lemmas.List.{length-set, get_or_read}
 use Rattle.gv_sggtt.specs.Entries.{AreWritten, Kept}
 use Rattle.gv_sggtt.proofs.WrittenSlots.{taken-there, written-taken, all-zero}

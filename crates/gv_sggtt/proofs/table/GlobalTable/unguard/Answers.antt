@@ -1,7 +1,4 @@
-use Rattle.std.proofs.Common.{◌≡◌, ℕ, ◌<◌, ◌≤◌, List, true, false, length, set, sym, ap, ◌∙◌, subst, refl}
-use Rattle.gv_types.specs.declared.ranges.Ranges.{Ranges}
-use Rattle.gv_gpu.specs.Change.{ChangesOnly}
-use Rattle.gv_gpu.specs.Part.{entries_part}
+use Rattle.std.proofs.Common.{◌≡◌, ℕ, ◌<◌, ◌≤◌, List, true, false, length, sym, ap, ◌∙◌, subst, refl}
 use Rattle.gv_guest.proofs.Kept.{memory-entries}
 use Rattle.gv_sggtt.specs.Mirror.{Mirrors}
 use Rattle.gv_sggtt.specs.Pins.{HasPins, ChangesOwnPins}

@@ -1,4 +1,4 @@
-use Rattle.std.proofs.Common.{◌≡◌, ℕ, ◌+◌, cond, ◌<◌, ◌≤◌, List, Option, true, length, get_or, set, sym, ap, ◌∙◌, subst, refl}
+use Rattle.std.proofs.Common.{◌≡◌, ℕ, ◌+◌, cond, ◌<◌, ◌≤◌, List, Option, true, length, get_or, set, sym, ap, ◌∙◌, subst}
 use Rattle.gv_types.specs.declared.ranges.Ranges.{Ranges}
 use Rattle.std.proofs.lemmas.List.{get_or-set_same}
 use Rattle.gv_entry.specs.Entry.{global_frame}
@@ -12,7 +12,7 @@ use Rattle.gv_gpu.proofs.Changes.{global-changes}
 use Rattle.gv_guest.proofs.Kept.{memory-entries}
 use Rattle.gv_sggtt.specs.Linked.{is_frame}
 use Rattle.gv_sggtt.specs.Mirror.{NamesFrame, Mirrors}
-use Rattle.gv_sggtt.specs.Pins.{HasPins, ChangesOwnPins}
+use Rattle.gv_sggtt.specs.Pins.{ChangesOwnPins}
 use Rattle.gv_sggtt.specs.Table.{Table, entry_grant, guards}
 use Rattle.gv_sggtt.proofs.OwnPins.{has-pins, changes-written}
 use Rattle.gv_sggtt.proofs.Written.{some-live, mirrors-written}
