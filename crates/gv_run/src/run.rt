@@ -132,7 +132,12 @@ fn tell_reply(report: &mut ReportWriter, event: &Event, reply: &Reply) -> Result
 
 // Tells a word of memory, unless it is 0.
 #[tactic(auto, using(crate::proofs::Text::said_none))]
-fn tell_word(report: &mut ReportWriter, guest: GuestId, at: u64, value: u64) -> Result<(), OutOfMemory>
+fn tell_word(
+    report: &mut ReportWriter,
+    guest: GuestId,
+    at: u64,
+    value: u64,
+) -> Result<(), OutOfMemory>
     requires { guest.0 < 8 }
     ensures { OnOk result (report.new ≡ report.old ++ text_of (words_said guest.0 at (value ∷ []))) }
 {
@@ -182,7 +187,13 @@ fn tell_memories<K: Sink, G: Gpu>(
     ensures reads { result ≢ Err Stopped.Read }
 {
     for (number, guest) in guests.iter().enumerate() {
-        tell_memory(report, sink, gpu, GuestId(number as u8), &guest.memory().frames)?;
+        tell_memory(
+            report,
+            sink,
+            gpu,
+            GuestId(number as u8),
+            &guest.memory().frames,
+        )?;
     }
     Ok(())
 }

@@ -138,13 +138,21 @@ const ROWS: [Row; 20] = [
     },
 ];
 
-// Runs a script in pieces of at most `most` bytes, and answers the status and what was written.
-fn run(alloc: Global, words: &[&str], script: &str, most: usize) -> Result<(Status, Vec<u8>), Fail>
-    requires { 0 < most }
+// Runs a script over a source that gives at most `read` bytes a call and a sink that takes at most
+// `written`, and answers the status and what was written.
+fn run(
+    alloc: Global,
+    words: &[&str],
+    script: &str,
+    read: usize,
+    written: usize,
+) -> Result<(Status, Vec<u8>), Fail>
+    requires read { 0 < read }
+    requires written { 0 < written }
 {
     let bytes = Vec::from_slice(alloc, script.as_bytes())?;
-    let mut source = MemorySource::new(bytes, most, Vec::new(alloc));
-    let mut sink = MemorySink::new(alloc, 4096, most, Vec::new(alloc))?;
+    let mut source = MemorySource::new(bytes, read, Vec::new(alloc));
+    let mut sink = MemorySink::new(alloc, 4096, written, Vec::new(alloc))?;
     let mut gpu = SoftGpu::new(alloc);
     let status = mediate(alloc, words, &mut source, &mut sink, &mut gpu);
     Ok((status, Vec::from_slice(alloc, sink.bytes())?))
@@ -153,8 +161,8 @@ fn run(alloc: Global, words: &[&str], script: &str, most: usize) -> Result<(Stat
 #[test]
 fn worked_scripts(rt: HostRuntime) -> Result<(), Fail> {
     for row in &ROWS {
-        for most in [1, 7, 65_536] {
-            let (status, report) = run(rt.alloc(), &["run"], row.script, most)?;
+        for (read, written) in [(1, 5), (2, 1), (3, 2), (7, 65_536), (65_536, 1)] {
+            let (status, report) = run(rt.alloc(), &["run"], row.script, read, written)?;
             assert_eq!(rt; status, row.status, "{}", row.name);
             assert_eq!(rt; report.as_slice(), row.report.as_bytes(), "{}", row.name);
         }
@@ -165,8 +173,18 @@ fn worked_scripts(rt: HostRuntime) -> Result<(), Fail> {
 #[test]
 fn words_that_are_no_command(rt: HostRuntime) -> Result<(), Fail> {
     let script = "guest 1 0 0\nend\n";
-    for words in [[].as_slice(), &["run", "x"], &["walk"], &[""], &["run "]] {
-        let (status, report) = run(rt.alloc(), words, script, 65_536)?;
+    for words in [
+        [].as_slice(),
+        &["run", "x"],
+        &["walk"],
+        &[""],
+        &["run "],
+        &["gen"],
+        &["gen", "4294967296"],
+        &["--help"],
+        &["-V"],
+    ] {
+        let (status, report) = run(rt.alloc(), words, script, 65_536, 65_536)?;
         assert_eq!(rt; status, Status::BadWords);
         assert_eq!(rt; status.code(), 2);
         assert_eq!(rt; report.len(), 0);
@@ -174,28 +192,98 @@ fn words_that_are_no_command(rt: HostRuntime) -> Result<(), Fail> {
     Ok(())
 }
 
-// The script has 16 bytes, so 17 calls of one byte read it to its end, and its report has 5.
+// `gen` has its grammar, and isn't served yet.
 #[test]
-fn a_read_that_fails_gives_nothing(rt: HostRuntime) -> Result<(), Fail> {
-    let alloc = rt.alloc();
+fn a_script_from_a_number_is_refused(rt: HostRuntime) -> Result<(), Fail> {
+    let (status, report) = run(
+        rt.alloc(),
+        &["gen", "1"],
+        "guest 1 0 0\nend\n",
+        65_536,
+        65_536,
+    )?;
+    assert_eq!(rt; status, Status::BadWords);
+    assert_eq!(rt; report.len(), 0);
+    Ok(())
+}
+
+// Runs a script from a source that gives one byte a call and fails at one call, to a sink that fails at
+// one call, 0 being none.
+fn run_failing(
+    alloc: Global,
+    script: &str,
+    failing_read: u64,
+    failing_write: u64,
+) -> Result<(Status, Vec<u8>), Fail> {
+    let bytes = Vec::from_slice(alloc, script.as_bytes())?;
+    let mut source = MemorySource::new(bytes, 1, Vec::from_slice(alloc, &[failing_read])?);
+    let mut sink = MemorySink::new(
+        alloc,
+        4096,
+        65_536,
+        Vec::from_slice(alloc, &[failing_write])?,
+    )?;
+    let mut gpu = SoftGpu::new(alloc);
+    let status = mediate(alloc, &["run"], &mut source, &mut sink, &mut gpu);
+    Ok((status, Vec::from_slice(alloc, sink.bytes())?))
+}
+
+// The script has 16 bytes, and nothing behind its `end` line is read.
+#[test]
+fn a_read_that_fails_before_the_end_is_a_fault(rt: HostRuntime) -> Result<(), Fail> {
     for call in 1..19u64 {
-        let bytes = Vec::from_slice(alloc, b"guest 1 0 0\nend\n")?;
-        let mut source = MemorySource::new(bytes, 1, Vec::from_slice(alloc, &[call])?);
-        let mut sink = MemorySink::new(alloc, 4096, 65_536, Vec::new(alloc))?;
-        let status = mediate(
-            alloc,
-            &["run"],
-            &mut source,
-            &mut sink,
-            &mut SoftGpu::new(alloc),
-        );
-        let expected = if call <= 17 {
+        let (status, report) = run_failing(rt.alloc(), "guest 1 0 0\nend\n", call, 0)?;
+        let expected = if call <= 16 {
             (Status::ReadFault, b"".as_slice())
         } else {
             (Status::Done, b"done\n".as_slice())
         };
         assert_eq!(rt; status, expected.0, "at call {call}");
-        assert_eq!(rt; sink.bytes(), expected.1, "at call {call}");
+        assert_eq!(rt; report.as_slice(), expected.1, "at call {call}");
+    }
+    Ok(())
+}
+
+// The second line's line feed is the 21st byte: what it says is written where that was taken.
+#[test]
+fn a_line_is_run_as_soon_as_its_line_feed_was_taken(rt: HostRuntime) -> Result<(), Fail> {
+    let script = "guest 1 0 0\nr4 0 ffc\nr4 0 1000\nend\n";
+    for (read, write, status, report) in [
+        (21, 0, Status::ReadFault, b"".as_slice()),
+        (22, 0, Status::ReadFault, b"0 r4 ffc 0\n".as_slice()),
+        (22, 1, Status::WriteFault, b"".as_slice()),
+        (
+            32,
+            0,
+            Status::ReadFault,
+            b"0 r4 ffc 0\n0 r4 1000 ffffffff\n".as_slice(),
+        ),
+    ] {
+        let was = run_failing(rt.alloc(), script, read, write)?;
+        assert_eq!(rt; was.0, status, "at call {read}");
+        assert_eq!(rt; was.1.as_slice(), report, "at call {read}");
+    }
+    Ok(())
+}
+
+// A line of 256 bytes is one, and one of more is refused at its 257th byte.
+#[test]
+fn a_line_has_at_most_256_bytes(rt: HostRuntime) -> Result<(), Fail> {
+    let alloc = rt.alloc();
+    for (length, failing, status, report) in [
+        (256, 0, Status::Done, b"done\n".as_slice()),
+        (257, 0, Status::BadScript(1), b"refused 1\n".as_slice()),
+        (257, 258, Status::BadScript(1), b"refused 1\n".as_slice()),
+        (257, 257, Status::ReadFault, b"".as_slice()),
+    ] {
+        let mut script = String::new(alloc);
+        for _ in 0..length {
+            script.push('#')?;
+        }
+        script.push_str("\nguest 1 0 0\nend\n")?;
+        let was = run_failing(alloc, &script, failing, 0)?;
+        assert_eq!(rt; was.0, status, "{length} bytes");
+        assert_eq!(rt; was.1.as_slice(), report, "{length} bytes");
     }
     Ok(())
 }
