@@ -14,7 +14,7 @@ mod stands;
 pub use blit::{Blit, RowPair};
 pub use command::{Command, MAX_COMMAND_DWORDS, Unlisted, decode};
 pub use header::length;
-pub use laws::{accesses_are_aligned, live_commands_are_local};
 pub use kind::{Kind, PostWrite};
+pub use laws::{accesses_are_aligned, live_commands_are_local};
 pub use space::SpaceMeaning;
 pub use stands::{Stands, allowed};

@@ -170,12 +170,7 @@ impl Gpu for FailingGpu {
         self.inner.set_general(engine, n, value);
     }
 
-    fn submit(
-        &mut self,
-        engine: EngineId,
-        owner: GuestId,
-        descriptor: u64,
-    ) -> Result<(), GpuFailed>
+    fn submit(&mut self, engine: EngineId, owner: GuestId, descriptor: u64) -> Result<(), GpuFailed>
         requires { engine.0 < 4 }
         ensures ok { OnOk result (whole self.new ≡ submitted (whole self.old) engine.0 owner.0 descriptor) }
         ensures err { OnErr result (whole self.new ≡ with_faults (whole self.old) (counted (whole self.old).faults)) }

@@ -1,7 +1,7 @@
 -- What a device in memory stands for.
 use Rattle.std.specs.Prelude.{ℕ, ◌+◌, ◌*◌, nat_lt, if◌then◌else◌, List, Option, None, Some, slice_index, slice_index_or, map, replicate}
 use Rattle.gv_gpu.specs.Device.{Device, Loaded}
-use Rattle.gv_gpu.specs.Device.{Entry as Ran}
+use Rattle.gv_gpu.specs.Device.{JournalEntry as Ran}
 use Rattle.gv_engine.specs.Pages.{Held}
 use Rattle.gv_engine.specs.declared.context.Context.{Context}
 use Rattle.gv_engine.specs.declared.entry.Entry.{Entry}

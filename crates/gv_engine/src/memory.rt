@@ -5,12 +5,11 @@ ghost use Rattle.gv_types.specs.Memory.{with_half};
 ghost use Rattle.gv_engine.specs.Soft.{loaded_of};
 ghost use Rattle.gv_engine.specs.Whole.{whole};
 
-use gv_types::{half, with_half};
 use crate::SoftGpu;
 use crate::context::Context;
 use crate::pages::byte_of;
 use crate::strays::either;
-
+use gv_types::{half, with_half};
 
 impl SoftGpu {
     fn word_in(&self, page: Option<u64>, at: u64) -> u64

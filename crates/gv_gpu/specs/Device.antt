@@ -16,7 +16,7 @@ pub record Loaded : Type 0 where
   pub root : ℕ
 
 -- a command that ran: where, for whom, and its dwords, without the addresses of copied batches
-pub record Entry : Type 0 where
+pub record JournalEntry : Type 0 where
   pub engine : ℕ
   pub owner : ℕ
   pub shape : List ℕ
@@ -29,7 +29,7 @@ pub record Device : Type 0 where
   pub global : ℕ → ℕ
   pub general : ℕ → ℕ → ℕ
   pub loaded : ℕ → Option Loaded
-  pub journal : List Entry
+  pub journal : List JournalEntry
   pub strays : ℕ
   pub pokes : ℕ
   pub spare : ℕ

@@ -10,7 +10,7 @@ use Rattle.gv_types.specs.Memory.{zero_words, length-zero_words}
 use Rattle.gv_gpu.specs.Device.{Device, added}
 use Rattle.gv_gpu.specs.Part.{outside, frames_part}
 use Rattle.gv_gpu.proofs.Changed.{outside-added}
-use Rattle.gv_guest.specs.Placed.{Placed, Stands, memory_in, frame_label, is_among}
+use Rattle.gv_guest.specs.Placed.{Placed, Hosts, memory_in, frame_label, is_among}
 use Rattle.gv_guest.proofs.Written.{own_frame}
 
 among_last : (pages : List ℕ) (page n : ℕ) → is_among (pages ++ page ∷ []) n ≡ (is_among pages n || (eqb page n || false))
@@ -19,7 +19,7 @@ among_last pages page n = list_any-append (λ p. eqb p n) pages (page ∷ [])
 is_last : (pages : List ℕ) (page : ℕ) → is_among (pages ++ page ∷ []) page ≡ true
 is_last pages page = among_last pages page page ∙ ap (λ b. is_among pages page || (b || false)) (eq-eqb page page refl) ∙ or-true (is_among pages page)
 
-module _ (d : Device) (placed : Placed) (page : ℕ) (stands : Stands d placed) (free : d.label page ≡ None) where
+module _ (d : Device) (placed : Placed) (page : ℕ) (stands : Hosts d placed) (free : d.label page ≡ None) where
   abbrev grown : Placed
   grown = record placed { pages = placed.pages ++ page ∷ [] }
 
@@ -34,7 +34,7 @@ module _ (d : Device) (placed : Placed) (page : ℕ) (stands : Stands d placed) 
       let was : d.label q ≡ Some (frame_label placed.guest) = grind (arith, common_steps) in
       among_last placed.pages page q ∙ or_left (is_among placed.pages q) (eqb page q || false) (stands.all q was)
 
-  pub stands-added : page < 131072 → Stands after grown
+  pub stands-added : page < 131072 → Hosts after grown
   stands-added low = record {
     labelled = λ k h. grind (arith, common_steps, other_page k, stands.labelled k);
     long = λ k h. grind (arith, common_steps, length-zero_words, other_page k, stands.long k);

@@ -8,7 +8,7 @@ use Rattle.gv_gpu.specs.Part.{Part, inside, frames_part, entries_part}
 use Rattle.gv_gpu.proofs.Guests.{apart-entries-frames}
 use Rattle.gv_gpu.proofs.Changes.{leaves}
 use Rattle.gv_gpu.proofs.Seen.{label-same, words-same}
-use Rattle.gv_guest.specs.Placed.{Placed, Stands, KeepsMemory, memory_in, frame_label}
+use Rattle.gv_guest.specs.Placed.{Placed, Hosts, KeepsMemory, memory_in, frame_label}
 use Rattle.gv_guest.proofs.Written.{own_frame}
 
 module _ (w : Part) (d e : Device) (placed : Placed) (own : (n : ℕ) → w.page n (Some (frame_label placed.guest)) ≡ true) (left : Leaves w d e) where
@@ -18,7 +18,7 @@ module _ (w : Part) (d e : Device) (placed : Placed) (own : (n : ℕ) → w.page
   label : (k : ℕ) → d.label k ≡ Some (frame_label placed.guest) → e.label k ≡ Some (frame_label placed.guest)
   label k h = label-same w d e same k (frame_label placed.guest) (own k) h
 
-  pub stands-kept : Stands d placed → Stands e placed
+  pub stands-kept : Hosts d placed → Hosts e placed
   stands-kept stands = record {
     labelled = λ k h. label (get_or placed.pages k 0) (stands.labelled k h);
     long = λ k h. ap length (words-same w d e same (get_or placed.pages k 0) (frame_label placed.guest) (own (get_or placed.pages k 0)) (stands.labelled k h)) ∙ stands.long k h;
@@ -27,7 +27,7 @@ module _ (w : Part) (d e : Device) (placed : Placed) (own : (n : ℕ) → w.page
     all = λ n h. stands.all n (label-same w e d (sym same) n (frame_label placed.guest) (own n) h);
   }
 
-  pub memory-kept : Stands d placed → memory_in e placed ≡ memory_in d placed
+  pub memory-kept : Hosts d placed → memory_in e placed ≡ memory_in d placed
   memory-kept stands = same_lists _ _ (simp length-map refl) (λ k x h.
       let hk : k < length placed.pages = rw length-map at h in
       let page = get_or placed.pages k 0 in
@@ -38,7 +38,7 @@ module _ (ranges : Ranges) (n : ℕ) (d e : Device) (placed : Placed) (changes :
   frames_left : Leaves (frames_part placed.guest) d e
   frames_left = leaves (apart-entries-frames ranges placed.guest) changes
 
-  pub memory-entries : Stands d placed → KeepsMemory placed d e
+  pub memory-entries : Hosts d placed → KeepsMemory placed d e
   memory-entries stands = record {
     stands = stands-kept (frames_part placed.guest) d e placed (λ n. own_frame placed.guest) frames_left stands;
     memory = memory-kept (frames_part placed.guest) d e placed (λ n. own_frame placed.guest) frames_left stands;

@@ -11,7 +11,7 @@ use Rattle.gv_gpu.specs.Device.{Device, added, released}
 use Rattle.gv_gpu.specs.Part.{outside, frames_part, is_frame_of}
 use Rattle.gv_gpu.proofs.Changed.{outside-added, outside-released}
 use Rattle.gv_guest.specs.Move.{CopiesPage}
-use Rattle.gv_guest.specs.Placed.{Placed, Stands, memory_in, frame_label, is_among}
+use Rattle.gv_guest.specs.Placed.{Placed, Hosts, memory_in, frame_label, is_among}
 use Rattle.gv_guest.proofs.Written.{own_frame}
 
 among_set : (xs : List ℕ) (k n page : ℕ) → n ≢ get_or xs k 0 → is_among xs n ≡ true → is_among (set xs k page) n ≡ true
@@ -19,7 +19,7 @@ among_set [] k n page differ h = h
 among_set (x ∷ xs) zero n page differ h = grind (arith, common_steps)
 among_set (x ∷ xs) (suc k) n page differ h = let rest = among_set xs k n page differ in grind (arith, common_steps)
 
-module _ (d e : Device) (placed : Placed) (frame page old : ℕ) (stands : Stands d placed) (within : frame < length placed.pages) (was : old ≡ get_or placed.pages frame 0) (free : d.label page ≡ None) where
+module _ (d e : Device) (placed : Placed) (frame page old : ℕ) (stands : Hosts d placed) (within : frame < length placed.pages) (was : old ≡ get_or placed.pages frame 0) (free : d.label page ≡ None) where
   abbrev moved : Placed
   moved = record placed { pages = set placed.pages frame page }
 
@@ -85,7 +85,7 @@ module _ (d e : Device) (placed : Placed) (frame page old : ℕ) (stands : Stand
         among_set placed.pages frame n page (λ same. live (same ∙ sym was)) (stands.all n (sym (labels n differ live) ∙ h)))
         (cases_eq n page)
 
-    pub stands-moved : Stands e moved
+    pub stands-moved : Hosts e moved
     stands-moved = record {
       labelled = each (λ q. e.label q ≡ Some (frame_label placed.guest)) new_label kept_label;
       long = each (λ q. length (e.words q) ≡ 512) long_page (λ k h differ. ap length (kept_words k h differ) ∙ stands.long k h);
@@ -106,7 +106,7 @@ module _ (d e : Device) (placed : Placed) (frame page old : ℕ) (stands : Stand
             (cases_eq k frame)
 
 -- The new page is added, gets the words, and the old page is released.
-module _ (d b c e : Device) (placed : Placed) (frame page old : ℕ) (stands : Stands d placed) (within : frame < length placed.pages) (was : old ≡ get_or placed.pages frame 0) (free : d.label page ≡ None) (empty : d.words page ≡ []) (low : page < 131072) (add : b ≡ added d page (frame_label placed.guest)) (copy : CopiesPage b c old page) (release : e ≡ released c old) where
+module _ (d b c e : Device) (placed : Placed) (frame page old : ℕ) (stands : Hosts d placed) (within : frame < length placed.pages) (was : old ≡ get_or placed.pages frame 0) (free : d.label page ≡ None) (empty : d.words page ≡ []) (low : page < 131072) (add : b ≡ added d page (frame_label placed.guest)) (copy : CopiesPage b c old page) (release : e ≡ released c old) where
   differ : old ≢ page
   differ = apart-old d e placed frame page old stands within was free
 
@@ -131,7 +131,7 @@ module _ (d b c e : Device) (placed : Placed) (frame page old : ℕ) (stands : S
   same_words : (q : ℕ) → q ≢ page → q ≢ old → e.words q ≡ d.words q
   same_words q first second = ap (λ f. f q) words ∙ (grind (arith, common_steps))
 
-  pub stands-after : Stands e (record placed { pages = set placed.pages frame page })
+  pub stands-after : Hosts e (record placed { pages = set placed.pages frame page })
   stands-after = stands-moved d e placed frame page old stands within was free low new_label no_label same_labels new_words same_words
 
   pub memory-after : memory_in e (record placed { pages = set placed.pages frame page }) ≡ memory_in d placed

@@ -9,7 +9,7 @@ use Rattle.gv_gpu.specs.Change.{ChangesOnly}
 use Rattle.gv_gpu.specs.Device.{Device, poked}
 use Rattle.gv_gpu.specs.Part.{frames_part, is_frame_of}
 use Rattle.gv_gpu.proofs.Changes.{poked-changes}
-use Rattle.gv_guest.specs.Placed.{Placed, Stands, memory_in, frame_label}
+use Rattle.gv_guest.specs.Placed.{Placed, Hosts, memory_in, frame_label}
 
 put_at : (f : ℕ → List ℕ) (pages : List ℕ) (k j : ℕ) (x : List ℕ) → ((j k : ℕ) → j < length pages → k < length pages → get_or pages j 0 ≡ get_or pages k 0 → j ≡ k) → k < length pages → j < length pages → put f (get_or pages k 0) x (get_or pages j 0) ≡ get_or (set (map f pages) k x) j []
 put_at f pages k j x apart hk hj =
@@ -27,7 +27,7 @@ map_put f pages k x apart hk =
 pub own_frame : (guest : ℕ) → is_frame_of guest (Some (frame_label guest)) ≡ true
 own_frame guest = rw (eq-eqb guest guest refl) refl
 
-module _ (d e : Device) (placed : Placed) (number value page : ℕ) (stands : Stands d placed) (within : number < length placed.pages * 512) (at : page ≡ get_or placed.pages (number / 512) 0) (step : e ≡ poked d page (number % 512) value) where
+module _ (d e : Device) (placed : Placed) (number value page : ℕ) (stands : Hosts d placed) (within : number < length placed.pages * 512) (at : page ≡ get_or placed.pages (number / 512) 0) (step : e ≡ poked d page (number % 512) value) where
   frame : number / 512 < length placed.pages
   frame = omega arith
 

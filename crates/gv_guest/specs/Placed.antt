@@ -23,7 +23,7 @@ is_among pages n = list_any (λ page. page == n) pages
 
 -- Each frame has a live page of its own, labelled for the guest; and these are all pages with this
 -- label.
-pub record Stands (d : Device) (placed : Placed) : Type 0 where
+pub record Hosts (d : Device) (placed : Placed) : Type 0 where
   pub labelled : (k : ℕ) → k < length placed.pages → d.label (slice_index placed.pages k) ≡ Some (frame_label placed.guest)
   pub long : (k : ℕ) → k < length placed.pages → length (d.words (slice_index placed.pages k)) ≡ 512
   pub below : (k : ℕ) → k < length placed.pages → slice_index placed.pages k < 131072
@@ -36,5 +36,5 @@ nowhere guest = record { guest = guest; pages = [] }
 
 -- The memory stands as before, with the same words.
 pub record KeepsMemory (placed : Placed) (before after : Device) : Type 0 where
-  pub stands : Stands after placed
+  pub stands : Hosts after placed
   pub memory : memory_in after placed ≡ memory_in before placed

@@ -3,7 +3,7 @@ ghost use Rattle.gv_gpu.specs.Change.{ChangesOnly};
 ghost use Rattle.gv_gpu.specs.Part.{outside, frames_part};
 ghost use Rattle.gv_types.specs.Memory.{memory_read, memory_write, word_of, with_word, zero_memory, bytes_of, all_ones};
 ghost use Rattle.gv_guest.specs.Move.{MovesFrame, CopiesPage};
-ghost use Rattle.gv_guest.specs.Placed.{Stands, memory_in, nowhere};
+ghost use Rattle.gv_guest.specs.Placed.{Hosts, memory_in, nowhere};
 
 use gv_gpu::Gpu;
 use gv_types::{GuestId, Label, OutOfMemory, PAGE_BYTES, PAGE_WORDS, Width, half, with_half};
@@ -39,9 +39,9 @@ impl Frames {
     ) -> Result<Frames, OutOfMemory>
         requires few { frames ≤ 16384 }
         requires room { (G.state gpu.old).live + frames ≤ 131072 }
-        requires none { Stands (G.state gpu.old) (nowhere guest.0) }
+        requires none { Hosts (G.state gpu.old) (nowhere guest.0) }
         ensures guest { IfOk result (λ m. m.guest ≡ guest.0) }
-        ensures stands { IfOk result (λ m. Stands (G.state gpu.new) m) }
+        ensures stands { IfOk result (λ m. Hosts (G.state gpu.new) m) }
         ensures memory { IfOk result (λ m. memory_in (G.state gpu.new) m ≡ zero_memory frames) }
         ensures frames { IfOk result (λ m. length m.pages ≡ frames) }
         ensures live { OnOk result ((G.state gpu.new).live ≡ (G.state gpu.old).live + frames) }
@@ -83,7 +83,7 @@ impl Frames {
 
     // The word with a number, counted over all frames.
     fn word<G: Gpu>(&self, gpu: &G, number: u64) -> u64
-        requires stands { Stands (G.state gpu.now) self.now }
+        requires stands { Hosts (G.state gpu.now) self.now }
         requires within { number < length self.now.pages * 512 }
         ensures { result ≡ word_of (memory_in (G.state gpu.now) self.now) number }
     {
@@ -92,10 +92,10 @@ impl Frames {
     }
 
     fn set_word<G: Gpu>(&self, gpu: &mut G, number: u64, value: u64)
-        requires stands { Stands (G.state gpu.old) self.now }
+        requires stands { Hosts (G.state gpu.old) self.now }
         requires within { number < length self.now.pages * 512 }
         ensures memory { memory_in (G.state gpu.new) self.now ≡ with_word (memory_in (G.state gpu.old) self.now) number value }
-        ensures stands { Stands (G.state gpu.new) self.now }
+        ensures stands { Hosts (G.state gpu.new) self.now }
         ensures changes { ChangesOnly (frames_part self.now.guest) 1 (G.state gpu.old) (G.state gpu.new) }
     {
         let page = self.page_of(number);
@@ -104,7 +104,7 @@ impl Frames {
 
     /// What an aligned read gives: all ones outside memory.
     pub fn read<G: Gpu>(&self, gpu: &G, at: u64, width: Width) -> u64
-        requires stands { Stands (G.state gpu.now) self.now }
+        requires stands { Hosts (G.state gpu.now) self.now }
         requires aligned { at % bytes_of width ≡ 0 }
         ensures { result ≡ memory_read (memory_in (G.state gpu.now) self.now) width at }
     {
@@ -120,11 +120,11 @@ impl Frames {
 
     /// An aligned write, which does nothing outside memory. It pokes one word at the most.
     pub fn write<G: Gpu>(&self, gpu: &mut G, at: u64, width: Width, value: u64)
-        requires stands { Stands (G.state gpu.old) self.now }
+        requires stands { Hosts (G.state gpu.old) self.now }
         requires aligned { at % bytes_of width ≡ 0 }
         requires fits { value ≤ all_ones width }
         ensures memory { memory_in (G.state gpu.new) self.now ≡ memory_write (memory_in (G.state gpu.old) self.now) width at value }
-        ensures stands { Stands (G.state gpu.new) self.now }
+        ensures stands { Hosts (G.state gpu.new) self.now }
         ensures changes { ChangesOnly (frames_part self.now.guest) 1 (G.state gpu.old) (G.state gpu.new) }
     {
         if at >= u64::from(self.count()) * PAGE_BYTES {
@@ -139,12 +139,12 @@ impl Frames {
     }
     /// Puts a frame into another host page, with the same words, and releases its old one.
     pub(crate) fn move_page<G: Gpu>(&mut self, gpu: &mut G, frame: u32) -> Result<(), OutOfMemory>
-        requires stands { Stands (G.state gpu.old) self.old }
+        requires stands { Hosts (G.state gpu.old) self.old }
         requires within { frame < length self.old.pages }
         requires room { (G.state gpu.old).live < 131072 }
         ensures moved { OnOk result (MovesFrame self.old self.new frame (G.state gpu.new)) }
         ensures memory { OnOk result (memory_in (G.state gpu.new) self.new ≡ memory_in (G.state gpu.old) self.old) }
-        ensures stands { OnOk result (Stands (G.state gpu.new) self.new) }
+        ensures stands { OnOk result (Hosts (G.state gpu.new) self.new) }
         ensures changes { OnOk result (ChangesOnly (frames_part self.old.guest) 512 (G.state gpu.old) (G.state gpu.new)) }
         ensures frames { OnErr result (self.new ≡ self.old) }
         ensures device { OnErr result (G.state gpu.new ≡ G.state gpu.old) }

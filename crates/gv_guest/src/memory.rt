@@ -3,7 +3,7 @@ ghost use Rattle.gv_gpu.specs.Change.{ChangesOnly};
 ghost use Rattle.gv_gpu.specs.Part.{outside, frames_part};
 ghost use Rattle.gv_types.specs.Memory.{memory_read, memory_write, zero_memory, bytes_of, all_ones};
 ghost use Rattle.gv_guest.specs.Move.{IfMoved, UnlessMoved, MovesFrame};
-ghost use Rattle.gv_guest.specs.Placed.{Stands, memory_in, nowhere};
+ghost use Rattle.gv_guest.specs.Placed.{Hosts, memory_in, nowhere};
 
 use crate::frames::Frames;
 use crate::page_move::PageMove;
@@ -30,9 +30,9 @@ impl Memory {
     ) -> Result<Memory, OutOfMemory>
         requires few { frames ≤ 16384 }
         requires room { (G.state gpu.old).live + frames ≤ 131072 }
-        requires none { Stands (G.state gpu.old) (nowhere guest.0) }
+        requires none { Hosts (G.state gpu.old) (nowhere guest.0) }
         ensures guest { IfOk result (λ m. m.frames.guest ≡ guest.0) }
-        ensures stands { IfOk result (λ m. Stands (G.state gpu.new) m.frames) }
+        ensures stands { IfOk result (λ m. Hosts (G.state gpu.new) m.frames) }
         ensures memory { IfOk result (λ m. memory_in (G.state gpu.new) m.frames ≡ zero_memory frames) }
         ensures frames { IfOk result (λ m. length m.frames.pages ≡ frames) }
         ensures pins { IfOk result (λ m. m.pins ≡ replicate frames 0) }
@@ -61,7 +61,7 @@ impl Memory {
 
     /// What an aligned read gives: all ones outside memory.
     pub fn read<G: Gpu>(&self, gpu: &G, at: u64, width: Width) -> u64
-        requires stands { Stands (G.state gpu.now) self.now.frames }
+        requires stands { Hosts (G.state gpu.now) self.now.frames }
         requires aligned { at % bytes_of width ≡ 0 }
         ensures { result ≡ memory_read (memory_in (G.state gpu.now) self.now.frames) width at }
     {
@@ -70,11 +70,11 @@ impl Memory {
 
     /// An aligned write, which does nothing outside memory. It pokes one word at the most.
     pub fn write<G: Gpu>(&self, gpu: &mut G, at: u64, width: Width, value: u64)
-        requires stands { Stands (G.state gpu.old) self.now.frames }
+        requires stands { Hosts (G.state gpu.old) self.now.frames }
         requires aligned { at % bytes_of width ≡ 0 }
         requires fits { value ≤ all_ones width }
         ensures memory { memory_in (G.state gpu.new) self.now.frames ≡ memory_write (memory_in (G.state gpu.old) self.now.frames) width at value }
-        ensures stands { Stands (G.state gpu.new) self.now.frames }
+        ensures stands { Hosts (G.state gpu.new) self.now.frames }
         ensures changes { ChangesOnly (frames_part self.now.frames.guest) 1 (G.state gpu.old) (G.state gpu.new) }
     {
         self.frames.write(gpu, at, width, value)
@@ -110,7 +110,7 @@ impl Memory {
     /// Puts a frame into another host page, with the same words, and releases its old one; but a frame that
     /// is pinned is kept.
     pub fn move_page<G: Gpu>(&mut self, gpu: &mut G, frame: u32) -> Result<PageMove, OutOfMemory>
-        requires stands { Stands (G.state gpu.old) self.old.frames }
+        requires stands { Hosts (G.state gpu.old) self.old.frames }
         requires within { frame < length self.old.frames.pages }
         requires counted { frame < length self.old.pins }
         requires room { (G.state gpu.old).live < 131072 }
@@ -118,7 +118,7 @@ impl Memory {
         ensures moved { IfMoved result (MovesFrame self.old.frames self.new.frames frame (G.state gpu.new)) }
         ensures pins { self.new.pins ≡ self.old.pins }
         ensures memory { memory_in (G.state gpu.new) self.new.frames ≡ memory_in (G.state gpu.old) self.old.frames }
-        ensures stands { Stands (G.state gpu.new) self.new.frames }
+        ensures stands { Hosts (G.state gpu.new) self.new.frames }
         ensures changes { ChangesOnly (frames_part self.old.frames.guest) 512 (G.state gpu.old) (G.state gpu.new) }
 
         // Where the page didn't move nothing changes.

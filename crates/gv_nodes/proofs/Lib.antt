@@ -1,3 +1,3 @@
 pub mod Lookups
-pub mod Places
+pub mod Positions
 pub mod NodeOf

@@ -1,5 +1,5 @@
 ghost use Rattle.std.specs.Prelude.{◌≡◌, ◌-◌, ◌+◌, ◌^◌, ◌<◌, ◌≤◌, ◌↔◌, IsTrue, IsOk, None, Some, IfOk, IfSome, IfNone, OnOk, OnErr};
-ghost use Rattle.gv_nodes.specs.Keys.{place_of};
+ghost use Rattle.gv_nodes.specs.Keys.{position_of};
 
 use gv_types::OutOfMemory;
 use slab::Slab;
@@ -92,7 +92,7 @@ impl Nodes {
         ensures none { IfNone result (IsAbsent self.now frame level) }
         ensures nodes { AreNodes self.now }
     {
-        self.keys[place(frame, level)]
+        self.keys[position(frame, level)]
     }
 
     /// The node under the key.
@@ -124,7 +124,7 @@ impl Nodes {
             parents: 0,
         };
         let key = self.tables.insert_reserved(node);
-        self.keys[place(node.frame, node.level)] = Some(key);
+        self.keys[position(node.frame, node.level)] = Some(key);
         self.spare -= 1;
         key
     }
@@ -164,14 +164,14 @@ impl Nodes {
         ensures nodes { AreNodes self.new }
     {
         let node = self.tables.remove(key);
-        self.keys[place(node.frame, node.level)] = None;
+        self.keys[position(node.frame, node.level)] = None;
         self.spare += 1;
     }
 }
 
-fn place(frame: u32, level: u8) -> usize
+fn position(frame: u32, level: u8) -> usize
     requires { 1 ≤ level }
-    ensures { result ≡ place_of frame level }
+    ensures { result ≡ position_of frame level }
 {
     frame as usize * LEVELS + level as usize - 1
 }

@@ -7,7 +7,7 @@ use Rattle.gv_types.specs.declared.event.Place.TheVariants.{Registers}
 use Rattle.gv_types.specs.declared.event.Width.{Width}
 use Rattle.gv_types.specs.declared.ids.EngineId.{EngineId}
 use Rattle.gv_types.specs.declared.ranges.Ranges.{Ranges}
-use Rattle.gv_gpu.specs.Device.{Entry}
+use Rattle.gv_gpu.specs.Device.{JournalEntry}
 use Rattle.gv_vgpu.specs.Device.{PrivateDevice, range_written}
 use Rattle.gv_vgpu.specs.Step.{answer, guest_of}
 use Rattle.gv_run.specs.Course.{play}
@@ -76,7 +76,7 @@ answer-quiet p one = refl
 events-quiet : (p : PrivateDevice) (events : List Event) → flat_map (λ (h : Happened). h.ran) (play event_course p events).came ≡ []
 events-quiet p [] = refl
 events-quiet p (one ∷ events) =
-    ap (λ (z : List Entry). z ++ flat_map (λ (h : Happened). h.ran) (play event_course (answer p one).left events).came) (answer-quiet p one)
+    ap (λ (z : List JournalEntry). z ++ flat_map (λ (h : Happened). h.ran) (play event_course (answer p one).left events).came) (answer-quiet p one)
     ∙ events-quiet (answer p one).left events
 
 pub input-quiet : (p : PrivateDevice) (input : Input) → ran_in (record { input = input; events = (play event_course p (events_in input)).came }) ≡ []

@@ -7,7 +7,7 @@ use Rattle.gv_text.specs.Report.{text_of}
 use Rattle.gv_text.specs.Script.{script_of}
 use Rattle.gv_text.specs.declared.ending.Ending.{Ending}
 use Rattle.gv_gpu.specs.Change.{Ran, RanPart}
-use Rattle.gv_gpu.specs.Device.{Device, Entry}
+use Rattle.gv_gpu.specs.Device.{Device, JournalEntry}
 use Rattle.gv_lines.specs.Writer.{PassesOn}
 use Rattle.gv_lines.proofs.Passing.{PassesOn-more}
 use Rattle.gv_vgpu.specs.declared.vgpu.Vgpu.{Vgpu}
@@ -43,7 +43,7 @@ module _ (bytes : List ℕ) {how : Ending} {start d : Device} {guests : List Vgp
   passed = subst (λ l. PassesOn l (held ++ end_text how d guests) a b) whole (PassesOn-more (text_of (said_all (course_of [] (script_of bytes)).came)) held (end_text how d guests) a b lines.report)
 
   all_ran : Ran start d (commands_in bytes)
-  all_ran = subst (λ (ran : List Entry). Ran start d ran) (sym (commands_in-script bytes (script_of bytes) refl)) lines.ran
+  all_ran = subst (λ (ran : List JournalEntry). Ran start d ran) (sym (commands_in-script bytes (script_of bytes) refl)) lines.ran
 
   pub finish-begun : WritesFront (held ++ text_of (ending_said how (machine_in d first_owner guests))) b c → Begun bytes start d a c
   finish-begun front = record {

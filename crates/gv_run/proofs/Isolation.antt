@@ -3,7 +3,7 @@ use Rattle.std.proofs.Common.{◌≡◌, ℕ, ◌+◌, ◌<◌, ◌≤◌, List,
 use Rattle.std.proofs.lemmas.List.Elements.{filter-append}
 use Rattle.std.specs.List.{AllByRecursion, flat_map}
 use Rattle.gv_balloon.specs.Shares.{nothing_given}
-use Rattle.gv_gpu.specs.Device.{Entry}
+use Rattle.gv_gpu.specs.Device.{JournalEntry}
 use Rattle.gv_text.specs.Guest.{speaks_of, lines_of_guest}
 use Rattle.gv_text.specs.Report.{text_of}
 use Rattle.gv_text.specs.Script.{Script, script_of}
@@ -26,7 +26,7 @@ use Rattle.gv_run.proofs.Printable.{Printable, printable-append, inputs-printabl
 pub inputs-quiet : (m : Machine) (inputs : List Input) → ran_all (play input_course m inputs).came ≡ []
 inputs-quiet m [] = refl
 inputs-quiet m (input ∷ inputs) =
-    ap (λ (z : List Entry). z ++ ran_all (play input_course (input_course m input).left inputs).came) (input-quiet (device_at m (whose input)) input)
+    ap (λ (z : List JournalEntry). z ++ ran_all (play input_course (input_course m input).left inputs).came) (input-quiet (device_at m (whose input)) input)
     ∙ inputs-quiet (input_course m input).left inputs
 
 module _ (script : Script) (run : IsRun 0 script.lines) where

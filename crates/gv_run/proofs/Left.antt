@@ -9,7 +9,7 @@ use Rattle.gv_text.specs.declared.ending.Ending.TheVariants.{Done, BadScript}
 use Rattle.gv_text.specs.declared.known.Known.{Known}
 use Rattle.gv_text.specs.declared.script_line.Line.{Line}
 use Rattle.gv_gpu.specs.Change.{Ran, RanUpTo, RanPart}
-use Rattle.gv_gpu.specs.Device.{Device, Entry}
+use Rattle.gv_gpu.specs.Device.{Device, JournalEntry}
 use Rattle.gv_run.specs.Course.{Course, onto}
 use Rattle.gv_run.specs.Machine.{Machine, Done as Came, line_course, ran_in, ran_all}
 use Rattle.gv_run.specs.Report.{said_of, said_all, course_of}
@@ -54,7 +54,7 @@ all_left all before start = record {
 }
 
 -- these commands ran, one after another
-ran_then : {d e f : Device} {xs ys : List Entry} → Ran d e xs → Ran e f ys → Ran d f (xs ++ ys)
+ran_then : {d e f : Device} {xs ys : List JournalEntry} → Ran d e xs → Ran e f ys → Ran d f (xs ++ ys)
 ran_then {d} {e} {f} {xs} {ys} first second = record {
   journal = second.journal ∙ ap (λ z. z ++ ys) first.journal ∙ append_assoc d.journal xs ys;
   strays = second.strays ∙ first.strays;
@@ -105,11 +105,11 @@ over all c start old d new kept is =
     }
 
 -- what ran is all of it, as far as that goes
-pub ran-whole : {d e : Device} {xs : List Entry} → Ran d e xs → RanPart d e xs
+pub ran-whole : {d e : Device} {xs : List JournalEntry} → Ran d e xs → RanPart d e xs
 ran-whole {d} {e} {xs} ran = record { left = []; part = record { done = xs; ran = ran; front = append-nil xs } }
 
 -- before anything ran
-pub ran-before : (d : Device) (xs : List Entry) → RanPart d d xs
+pub ran-before : (d : Device) (xs : List JournalEntry) → RanPart d d xs
 ran-before d xs = record { left = xs; part = record { done = []; ran = record { journal = sym (append-nil d.journal); strays = refl }; front = refl } }
 
 -- ---- the whole script

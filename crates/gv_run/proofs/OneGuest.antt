@@ -13,7 +13,7 @@ use Rattle.gv_gpu.specs.Part.{outside, access_part, standing_part, is_frame_of}
 use Rattle.gv_gpu.proofs.Changes.{leaves-outside}
 use Rattle.gv_gpu.proofs.Guests.{apart-access}
 use Rattle.gv_gpu.proofs.Seen.{global-others}
-use Rattle.gv_guest.specs.Placed.{Stands, nowhere}
+use Rattle.gv_guest.specs.Placed.{Hosts, nowhere}
 use Rattle.gv_sggtt.specs.Mirror.{IsAbsent}
 use Rattle.gv_vgpu.specs.Device.{PrivateDevice, new_device}
 use Rattle.gv_vgpu.specs.Holds.{Holds, AreIdle, SameGuest, private_of, number_of, ranges_of, part_of}
@@ -61,7 +61,7 @@ module _ (d e : Device) (g : ℕ) (ranges : Ranges) (same : outside (access_part
   frames-others count there frames n l is = by_owner count n l (is_frame_of g (Some l)) there frames is refl
 
 -- a guest that isn't there has no page
-pub none-further : (d : Device) (count k : ℕ) → AreFrames d count → count ≤ k → Stands d (nowhere k)
+pub none-further : (d : Device) (count k : ℕ) → AreFrames d count → count ≤ k → Hosts d (nowhere k)
 none-further d count k frames past = record {
   labelled = λ j h. absurd (omega arith);
   long = λ j h. absurd (omega arith);

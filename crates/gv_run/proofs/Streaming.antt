@@ -10,7 +10,7 @@ use Rattle.gv_text.specs.declared.ending.Ending.TheVariants.{Done, BadScript, To
 use Rattle.gv_text.specs.declared.known.Known.{Known}
 use Rattle.gv_text.specs.declared.script_line.Line.{Line}
 use Rattle.gv_gpu.specs.Change.{Ran, RanPart}
-use Rattle.gv_gpu.specs.Device.{Device, Entry}
+use Rattle.gv_gpu.specs.Device.{Device, JournalEntry}
 use Rattle.gv_lines.specs.Coming.{Coming}
 use Rattle.gv_lines.specs.Reader.{ReaderState, HandsOut, Relates, TellsNext, coming, new_reader, has_line_feed}
 use Rattle.gv_lines.specs.Writer.{PassesOn}
@@ -88,7 +88,7 @@ report-front bytes a b front =
     (front-said [] (said_all c.came) (ending_said (script_of bytes).ending c.left) a b front)
 
 part-of : (bytes : List ℕ) (start d : Device) → RanPart start d (ran_all (course_of [] (script_of bytes)).came) → RanPart start d (commands_in bytes)
-part-of bytes start d part = subst (λ (ran : List Entry). RanPart start d ran) (sym (commands_in-script bytes (script_of bytes) refl)) part
+part-of bytes start d part = subst (λ (ran : List JournalEntry). RanPart start d ran) (sym (commands_in-script bytes (script_of bytes) refl)) part
 
 -- ---- where reading has come
 

@@ -7,7 +7,7 @@ use Rattle.std.proofs.lemmas.List.{append-nil, at_drop_more, get_or-map, length-
 use Rattle.gv_types.specs.Memory.{Memory, word_of, memory_read}
 use Rattle.gv_types.specs.declared.event.Width.TheVariants.{Eight}
 use Rattle.gv_gpu.specs.Device.{Device}
-use Rattle.gv_guest.specs.Placed.{Placed, Stands, memory_in}
+use Rattle.gv_guest.specs.Placed.{Placed, Hosts, memory_in}
 use Rattle.gv_text.specs.Report.{text_of}
 use Rattle.gv_text.specs.declared.report_line.ReportLine.{ReportLine}
 use Rattle.gv_text.specs.declared.report_line.ReportLine.TheVariants.{Memory as Told}
@@ -88,7 +88,7 @@ read_word m k h =
     let number : k * 8 / 8 ≡ k = omega arith in
     ap (λ b. cond b (word_of m (k * 8 / 8)) (2 ^ 64 - 1)) (lt-ltb (k * 8) (length m * 4096) inside) ∙ ap (word_of m) number
 
-pub whole-stands : (d : Device) (placed : Placed) → Stands d placed → IsWhole (memory_in d placed)
+pub whole-stands : (d : Device) (placed : Placed) → Hosts d placed → IsWhole (memory_in d placed)
 whole-stands d placed stands i h =
     let within : i < length placed.pages = rw length-map at h in
     ap length (get_or-map d.words placed.pages i 0 [] within) ∙ stands.long i within

@@ -12,7 +12,7 @@ use Rattle.gv_types.specs.declared.ranges.Ranges.{Ranges}
 use Rattle.gv_types.specs.declared.reply.Reply.{Reply}
 use Rattle.gv_balloon.specs.Shares.{next_ranges}
 use Rattle.gv_balloon.specs.declared.given.Given.{Given}
-use Rattle.gv_gpu.specs.Device.{Entry}
+use Rattle.gv_gpu.specs.Device.{JournalEntry}
 use Rattle.gv_text.specs.Script.{want_of}
 use Rattle.gv_text.specs.declared.script_line.Line.{Line}
 use Rattle.gv_text.specs.declared.script_line.Line.TheVariants.{Guest, Read, Write, Reset}
@@ -39,7 +39,7 @@ whose (turns engine count) = 0
 -- what came of an event: the reply, and the commands that ran
 pub record Happened : Type 0 where
   pub reply : Reply
-  pub ran : List Entry
+  pub ran : List JournalEntry
 
 -- what came of an input, event by event
 pub record Done : Type 0 where
@@ -104,8 +104,8 @@ line_course m (Guest g) = record { left = m ++ new_device (length m) g.frames (n
 line_course m line = play input_course m (inputs_in line)
 
 -- the commands that ran
-abbrev pub ran_in : Done → List Entry
+abbrev pub ran_in : Done → List JournalEntry
 ran_in done = flat_map (λ (h : Happened). h.ran) done.events
 
-abbrev pub ran_all : List Done → List Entry
+abbrev pub ran_all : List Done → List JournalEntry
 ran_all came = flat_map ran_in came

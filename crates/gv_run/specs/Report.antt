@@ -11,7 +11,7 @@ use Rattle.gv_types.specs.declared.reply.Reason.{Reason}
 use Rattle.gv_types.specs.declared.ids.EngineId.{EngineId}
 use Rattle.gv_types.specs.declared.ids.GuestId.{GuestId}
 use Rattle.gv_types.specs.declared.reply.Reply.{Reply}
-use Rattle.gv_gpu.specs.Device.{Entry}
+use Rattle.gv_gpu.specs.Device.{JournalEntry}
 use Rattle.gv_text.specs.Report.{text_of}
 use Rattle.gv_text.specs.Script.{Script, script_of}
 use Rattle.gv_text.specs.declared.ending.Ending.{Ending}
@@ -112,5 +112,5 @@ unfoldable pub machine_of : List ℕ → Machine
 machine_of source = (course_of [] (script_of source)).left
 
 -- the commands that the devices ran, in order
-unfoldable pub commands_in : List ℕ → List Entry
+unfoldable pub commands_in : List ℕ → List JournalEntry
 commands_in source = ran_all (course_of [] (script_of source)).came

@@ -9,7 +9,7 @@ use Rattle.gv_gpu.specs.Change.{Ran}
 use Rattle.gv_gpu.specs.Device.{Device}
 use Rattle.gv_types.specs.declared.ids.Label.{Label}
 use Rattle.gv_gpu.specs.Part.{AreDisjoint}
-use Rattle.gv_guest.specs.Placed.{Stands, memory_in}
+use Rattle.gv_guest.specs.Placed.{Hosts, memory_in}
 use Rattle.gv_sggtt.specs.Mirror.{IsAbsent}
 use Rattle.gv_text.specs.Report.{text_of}
 use Rattle.gv_text.specs.declared.known.Known.{Known}
@@ -68,7 +68,7 @@ pub record Agrees (d : Device) (known : Known) (guests : List Vgpu) : Type 0 whe
 -- The device has just the machine's memories: for each guest a page for each frame, with the frame's
 -- words, and no other page that is labelled as a frame of the guest.
 abbrev pub Keeps : Device → Machine → Type 0
-Keeps d m = (g : ℕ) → g < length m → (pages : List ℕ) × Stands d (record { guest = g; pages = pages }) × (memory_in d (record { guest = g; pages = pages }) ≡ (device_at m g).memory)
+Keeps d m = (g : ℕ) → g < length m → (pages : List ℕ) × Hosts d (record { guest = g; pages = pages }) × (memory_in d (record { guest = g; pages = pages }) ≡ (device_at m g).memory)
 
 -- A course of the machine was run over the shared device: the guests stand for what it leaves, its lines stand at the
 -- report's end, and its commands ran.

@@ -5,7 +5,7 @@ ghost use Rattle.gv_lines.specs.Writer.{PassesOn};
 ghost use Rattle.gv_run.specs.Streamed.{WritesFront};
 ghost use Rattle.gv_types.specs.Places.{end_of};
 ghost use Rattle.gv_types.specs.Memory.{bytes_of, all_ones};
-ghost use Rattle.gv_guest.specs.Placed.{Stands, memory_in};
+ghost use Rattle.gv_guest.specs.Placed.{Hosts, memory_in};
 ghost use Rattle.gv_text.specs.Grammar.{IsForm, value_limit};
 ghost use Rattle.gv_text.specs.Report.{report_text, text_of, IsPrintable};
 ghost use Rattle.gv_text.specs.Script.{nothing_known, has_room, accepts, known_after, want_of};
@@ -155,7 +155,7 @@ fn tell_memory<K: Sink, G: Gpu>(
     guest: GuestId,
     memory: &Frames,
 ) -> Result<(), Stopped>
-    requires stands { Stands (G.state gpu.now) memory.now }
+    requires stands { Hosts (G.state gpu.now) memory.now }
     requires there { guest.0 < 8 }
     ensures told { OnOk result (PassesOn (report.old ++ text_of (memory_said guest.0 (memory_in (G.state gpu.now) memory.now))) report.new (K.held sink.old) (K.held sink.new)) }
     ensures part { WritesFront (report.old ++ text_of (memory_said guest.0 (memory_in (G.state gpu.now) memory.now))) (K.held sink.old) (K.held sink.new) }

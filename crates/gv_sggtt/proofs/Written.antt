@@ -6,13 +6,13 @@ use Rattle.gv_types.specs.Maps.{put}
 use Rattle.gv_entry.specs.Global.{slot_of, pages_of, entry_at, with_entry_at}
 use Rattle.gv_entry.specs.Ranges.{owns_page}
 use Rattle.gv_gpu.specs.Device.{Device, with_global}
-use Rattle.gv_guest.specs.Placed.{Placed, Stands}
+use Rattle.gv_guest.specs.Placed.{Placed, Hosts}
 use Rattle.gv_sggtt.specs.Table.{Table, IsTable, table_entry, table_written, table_grant, entry_grant}
 use Rattle.gv_sggtt.specs.Mirror.{NamesFrame, Mirrors}
 use Rattle.gv_sggtt.proofs.Slots.{slot-once, entry-set, entry-other}
 
 -- a memory that has frames has a live page
-pub some-live : (d : Device) (placed : Placed) → Stands d placed → 0 < length placed.pages → (page : ℕ) × IsSome (d.label page)
+pub some-live : (d : Device) (placed : Placed) → Hosts d placed → 0 < length placed.pages → (page : ℕ) × IsSome (d.label page)
 some-live d placed stands some = (get_or placed.pages 0 0, subst IsSome (sym (stands.labelled 0 some)) refl)
 
 -- what an owned page grants

@@ -5,7 +5,7 @@ ghost use Rattle.gv_entry.specs.Grants.{unless};
 ghost use Rattle.gv_entry.specs.Ranges.{InParts, is_in, owns_page};
 ghost use Rattle.gv_gpu.specs.Change.{ChangesOnly};
 ghost use Rattle.gv_gpu.specs.Part.{entries_part};
-ghost use Rattle.gv_guest.specs.Placed.{Stands, KeepsMemory};
+ghost use Rattle.gv_guest.specs.Placed.{Hosts, KeepsMemory};
 ghost use Rattle.gv_sggtt.specs.Linked.{is_frame, names};
 ghost use Rattle.gv_sggtt.specs.Mirror.{Mirrors, NamesFrame, SetsEntries};
 ghost use Rattle.gv_sggtt.specs.Pins.{HasPins, ChangesOwnPins, PinsGranted};
@@ -226,7 +226,7 @@ impl GlobalTable {
     /// Sets the guest's entry of a page, and the physical one with it. Does nothing for a page that
     /// isn't the guest's own.
     pub fn write_entry<G: Gpu>(&mut self, gpu: &mut G, memory: &mut Memory, page: u32, value: u64)
-        requires stands { Stands (G.state gpu.old) memory.old.frames }
+        requires stands { Hosts (G.state gpu.old) memory.old.frames }
         requires frames { length memory.old.frames.pages ≡ self.old.frames }
         requires mirrors { Mirrors (G.state gpu.old) self.old memory.old.frames }
         requires pinned { HasPins self.old memory.old.pins }
@@ -253,7 +253,7 @@ impl GlobalTable {
 
     /// Guards a frame: takes its physical entries away, and their pins, at the cost of the entries that name it.
     pub fn guard<G: Gpu>(&mut self, gpu: &mut G, memory: &mut Memory, frame: u32)
-        requires stands { Stands (G.state gpu.old) memory.old.frames }
+        requires stands { Hosts (G.state gpu.old) memory.old.frames }
         requires frames { length memory.old.frames.pages ≡ self.old.frames }
         requires mirrors { Mirrors (G.state gpu.old) self.old memory.old.frames }
         requires pinned { HasPins self.old memory.old.pins }
@@ -275,7 +275,7 @@ impl GlobalTable {
     /// Guards a frame no longer: gives its physical entries back, and their pins, at the cost of the entries
     /// that name it.
     pub fn unguard<G: Gpu>(&mut self, gpu: &mut G, memory: &mut Memory, frame: u32)
-        requires stands { Stands (G.state gpu.old) memory.old.frames }
+        requires stands { Hosts (G.state gpu.old) memory.old.frames }
         requires frames { length memory.old.frames.pages ≡ self.old.frames }
         requires mirrors { Mirrors (G.state gpu.old) self.old memory.old.frames }
         requires pinned { HasPins self.old memory.old.pins }
@@ -297,7 +297,7 @@ impl GlobalTable {
 
     // Sets every entry to 0, with its physical one, and takes its pin.
     fn clear_entries<G: Gpu>(&mut self, gpu: &mut G, memory: &Frames, pins: &mut Pins)
-        requires stands { Stands (G.state gpu.old) memory.now }
+        requires stands { Hosts (G.state gpu.old) memory.now }
         requires frames { length memory.now.pages ≡ self.old.frames }
         requires mirrors { Mirrors (G.state gpu.old) self.old memory.now }
         requires pinned { HasPins self.old pins.old }
@@ -316,7 +316,7 @@ impl GlobalTable {
 
     /// Sets every entry to 0, at the cost of those that were written since it last was so, and guards no frame.
     pub fn clear<G: Gpu>(&mut self, gpu: &mut G, memory: &mut Memory)
-        requires stands { Stands (G.state gpu.old) memory.old.frames }
+        requires stands { Hosts (G.state gpu.old) memory.old.frames }
         requires frames { length memory.old.frames.pages ≡ self.old.frames }
         requires mirrors { Mirrors (G.state gpu.old) self.old memory.old.frames }
         requires pinned { HasPins self.old memory.old.pins }

@@ -8,7 +8,7 @@ use Rattle.gv_entry.specs.Tables.{words_of, entry_of, is_guarded}
 use Rattle.gv_entry.specs.SameTables.{SameTables}
 use Rattle.gv_entry.proofs.SameTables.{tables_decide}
 use Rattle.gv_gpu.specs.Device.{Device}
-use Rattle.gv_guest.specs.Placed.{Placed, Stands}
+use Rattle.gv_guest.specs.Placed.{Placed, Hosts}
 use Rattle.gv_shape.specs.Shadow.{Pages, Readings, Names, Local, wanted, split_level, is_live, is_split}
 use Rattle.gv_shape.specs.Counts.{Settled}
 use Rattle.gv_shape.specs.Shadows.{Shadows, Reaches, ShadowsReach, KeepsPages, ShadowsKeep, AreLiveTables, NodesAreTheLiveTables}

@@ -10,7 +10,7 @@ use Rattle.gv_entry.specs.Tables.{entry_of, index_at, Mapped, mapped_page, throu
 use Rattle.gv_entry.specs.Grants.{frame_of, if_writable, read_grant, write_grant}
 use Rattle.gv_gpu.specs.Device.{Device}
 use Rattle.gv_gpu.specs.Physical.{live_page, page_of, entry_in, third_table, second_table, first_table, leaf, entry_at, read_page, write_page}
-use Rattle.gv_guest.specs.Placed.{Placed, Stands}
+use Rattle.gv_guest.specs.Placed.{Placed, Hosts}
 use Rattle.gv_shape.specs.Shadows.{host_page}
 use Rattle.gv_shape.specs.Shadow.{Pages, Readings, shadow_label, split_level, has_leaves, table_word, split_word, leaf_word, Names, Local, wanted}
 
@@ -92,7 +92,7 @@ module _ (d : Device) (placed : Placed) (pages : Pages) (guarded : ℕ → Bool)
   at_second index next go none rest split Bad word h = absurd h
 
 module _ (d : Device) (placed : Placed) (pages : Pages) (guarded : ℕ → Bool) (m : Memory) (root page at : ℕ)
-    (stands : Stands d placed) (local : Local d placed pages guarded (wanted m)) (is : pages 4 root ≡ Some page) where
+    (stands : Hosts d placed) (local : Local d placed pages guarded (wanted m)) (is : pages 4 root ≡ Some page) where
   abbrev word1 : Option ℕ → ℕ
   word1 o = entry_in d o (index_at 1 at)
 
@@ -155,7 +155,7 @@ leaf_writable p true true = grind (arith, nat_tests)
 leaf_writable p true false = grind (arith, nat_tests)
 leaf_writable p false g = grind (arith, nat_tests)
 
-module _ (d : Device) (placed : Placed) (guarded : ℕ → Bool) (stands : Stands d placed) where
+module _ (d : Device) (placed : Placed) (guarded : ℕ → Bool) (stands : Hosts d placed) where
   names_page : (to : Mapped) (word : ℕ) → to.frame < length placed.pages → word ≡ leaf_word (get_or placed.pages to.frame 0) to.writable (guarded to.frame) → page_of d word ≡ Some (get_or placed.pages to.frame 0)
   names_page to word within e =
       let p = get_or placed.pages to.frame 0 in
@@ -185,7 +185,7 @@ module _ (d : Device) (placed : Placed) (guarded : ℕ → Bool) (stands : Stand
 
 -- Reading and writing go through the shadow tables exactly where the guest's tables grant it.
 module _ (d : Device) (placed : Placed) (pages : Pages) (guarded : ℕ → Bool) (m : Memory) (roots : List ℕ) (root page at : ℕ)
-    (stands : Stands d placed) (local : Local d placed pages guarded (wanted m)) (is : pages 4 root ≡ Some page) (same : guarded ≡ is_guarded m roots) where
+    (stands : Hosts d placed) (local : Local d placed pages guarded (wanted m)) (is : pages 4 root ≡ Some page) (same : guarded ≡ is_guarded m roots) where
   pub read-equals : read_page d page false at ≡ host_page placed (read_grant m root at)
   unfolding read_page
   read-equals = reads-from d placed guarded stands (walk m root at) (leaf d page at) (walk-leads d placed pages guarded m root page at stands local is)

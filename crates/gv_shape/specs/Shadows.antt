@@ -7,7 +7,7 @@ use Rattle.gv_entry.specs.Grants.{read_grant, write_grant}
 use Rattle.gv_entry.specs.SameTables.{SameTables}
 use Rattle.gv_gpu.specs.Device.{Device}
 use Rattle.gv_gpu.specs.Physical.{read_page, write_page}
-use Rattle.gv_guest.specs.Placed.{Placed, Stands}
+use Rattle.gv_guest.specs.Placed.{Placed, Hosts}
 use Rattle.gv_shape.specs.Shadow.{Pages, Readings, Local, wanted, split_level, is_live, is_split}
 use Rattle.gv_shape.specs.Counts.{Settled}
 
@@ -29,7 +29,7 @@ pub record Reaches (d : Device) (placed : Placed) (m : Memory) (roots : List ℕ
   pub write : (at : ℕ) → write_page d page false at ≡ host_page placed (write_grant m roots root at)
 
 abbrev pub ShadowsReach : Type 0
-ShadowsReach = (d : Device) (placed : Placed) (m : Memory) (roots : List ℕ) (pages : Pages) (root page : ℕ) → Stands d placed
+ShadowsReach = (d : Device) (placed : Placed) (m : Memory) (roots : List ℕ) (pages : Pages) (root page : ℕ) → Hosts d placed
     → Shadows d placed m roots pages → pages 4 root ≡ Some page → Reaches d placed m roots root page
 
 -- the nodes' pages are as they were

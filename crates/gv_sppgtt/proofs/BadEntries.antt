@@ -10,14 +10,14 @@ use Rattle.gv_entry.specs.declared.process.Process.TheVariants.{Absent, Table, P
 use Rattle.gv_entry.specs.Entry.{process_entry, is_set, is_bad, process_frame_of, is_large, base_frame_of}
 use Rattle.gv_entry.specs.Tables.{entry_of, words_of, any_entry, is_bad_entry, has_bad_entry, live, names, tables_named}
 use Rattle.gv_gpu.specs.Device.{Device}
-use Rattle.gv_guest.specs.Placed.{Placed, Stands, memory_in}
+use Rattle.gv_guest.specs.Placed.{Placed, Hosts, memory_in}
 use Rattle.gv_shape.specs.Shadow.{is_live, split_level}
 use Rattle.gv_shape.proofs.Live.{named_by}
 use Rattle.gv_shape.specs.Counts.{above}
 use Rattle.gv_sppgtt.specs.Sound.{IsBelow}
 
 -- each frame of a memory that stands has 512 words
-pub frame-words : (d : Device) (placed : Placed) (frame : ℕ) → Stands d placed → frame < length placed.pages → length (words_of (memory_in d placed) frame) ≡ 512
+pub frame-words : (d : Device) (placed : Placed) (frame : ℕ) → Hosts d placed → frame < length placed.pages → length (words_of (memory_in d placed) frame) ≡ 512
 frame-words d placed frame stands low = ap length (get_or-map d.words placed.pages frame 0 [] low) ∙ stands.long frame low
 
 -- what an entry that is present says, by its parts

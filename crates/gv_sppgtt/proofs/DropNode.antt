@@ -8,7 +8,7 @@ use Rattle.gv_entry.specs.Tables.{names}
 use Rattle.gv_gpu.specs.Device.{Device, released}
 use Rattle.gv_gpu.specs.Part.{outside, is_shadow_of}
 use Rattle.gv_gpu.proofs.Changed.{outside-released}
-use Rattle.gv_guest.specs.Placed.{Placed, Stands}
+use Rattle.gv_guest.specs.Placed.{Placed, Hosts}
 use Rattle.gv_nodes.specs.NodeMap.{NodeMap, AreNodes}
 use Rattle.gv_rmap.specs.Chains.{ReverseMap}
 use Rattle.gv_shape.specs.Shadow.{Pages, Readings, Names, Local, shadow_label}

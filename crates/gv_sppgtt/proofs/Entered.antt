@@ -9,7 +9,7 @@ use Rattle.gv_entry.specs.declared.process.Process.{Process}
 use Rattle.gv_entry.specs.declared.process.Process.TheVariants.{Absent, Table, Page, Bad, Large}
 use Rattle.gv_entry.specs.Tables.{names}
 use Rattle.gv_gpu.specs.Device.{Device, poked}
-use Rattle.gv_guest.specs.Placed.{Placed, Stands, frame_label}
+use Rattle.gv_guest.specs.Placed.{Placed, Hosts, frame_label}
 use Rattle.gv_rmap.specs.declared.leaf.Leaf.{Leaf}
 use Rattle.gv_rmap.specs.Leaves.{leaf_at, key}
 use Rattle.gv_rmap.specs.Chains.{ReverseMap, chain_of}

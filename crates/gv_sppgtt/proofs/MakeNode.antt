@@ -9,7 +9,7 @@ use Rattle.gv_entry.specs.declared.process.Process.{Process}
 use Rattle.gv_entry.specs.declared.process.Process.TheVariants.{Absent, Table, Page, Bad, Large}
 use Rattle.gv_entry.specs.Tables.{names}
 use Rattle.gv_gpu.specs.Device.{Device, added}
-use Rattle.gv_guest.specs.Placed.{Placed, Stands}
+use Rattle.gv_guest.specs.Placed.{Placed, Hosts}
 use Rattle.gv_nodes.specs.declared.nodes.Node.{Node}
 use Rattle.gv_nodes.specs.NodeMap.{NodeMap}
 use Rattle.gv_rmap.specs.Leaves.{leaf_at}
@@ -39,7 +39,7 @@ names-more placed pages after guarded level (Page t w) word kept h = h
 names-more placed pages after guarded level Bad word kept h = h
 
 module _ (d : Device) (placed : Placed) (nodes made : NodeMap) (chains : ReverseMap) (owners : List ℕ) (told : List Bool)
-    (stands : Stands d placed) (sound : Sound d placed nodes chains owners told)
+    (stands : Hosts d placed) (sound : Sound d placed nodes chains owners told)
     (level frame page : ℕ) (low : frame < length placed.pages) (one : 1 ≤ level) (four : level ≤ 6) (whole : IsWhole (length placed.pages) level frame)
     (absent : pages_in nodes level frame ≡ None) (below : page < 131072) (free : d.label page ≡ None)
     (same_frames : made.frames ≡ nodes.frames)

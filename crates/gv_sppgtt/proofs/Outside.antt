@@ -9,7 +9,7 @@ use Rattle.gv_gpu.specs.Part.{Part, outside, Apart, frames_part, is_shadow_of, i
 use Rattle.gv_gpu.specs.Change.{Leaves}
 use Rattle.gv_gpu.proofs.Changes.{leaves-outside}
 use Rattle.gv_gpu.proofs.Changed.{outside-added, outside-poked}
-use Rattle.gv_guest.specs.Placed.{Placed, Stands, memory_in}
+use Rattle.gv_guest.specs.Placed.{Placed, Hosts, memory_in}
 use Rattle.gv_guest.proofs.Kept.{stands-kept, memory-kept}
 use Rattle.gv_guest.proofs.Written.{own_frame}
 use Rattle.gv_shape.specs.Shadow.{shadow_label}
@@ -26,10 +26,10 @@ module _ (d e : Device) (placed : Placed) (same : outside (shadow_part placed.gu
   kept : Leaves (frames_part placed.guest) d e
   kept = leaves-outside (apart placed.guest) same
 
-  pub stands-shadow : Stands d placed → Stands e placed
+  pub stands-shadow : Hosts d placed → Hosts e placed
   stands-shadow stands = stands-kept (frames_part placed.guest) d e placed (λ n. own_frame placed.guest) kept stands
 
-  pub memory-shadow : Stands d placed → memory_in e placed ≡ memory_in d placed
+  pub memory-shadow : Hosts d placed → memory_in e placed ≡ memory_in d placed
   memory-shadow stands = memory-kept (frames_part placed.guest) d e placed (λ n. own_frame placed.guest) kept stands
 
 own_shadow : (g : ℕ) → is_shadow_of g (Some (shadow_label g)) ≡ true

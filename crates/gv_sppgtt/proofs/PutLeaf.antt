@@ -6,7 +6,7 @@ use Rattle.gv_entry.specs.declared.process.Process.{Process}
 use Rattle.gv_entry.specs.declared.process.Process.TheVariants.{Absent, Table, Page, Bad}
 use Rattle.gv_entry.specs.Tables.{names}
 use Rattle.gv_gpu.specs.Device.{Device, poked}
-use Rattle.gv_guest.specs.Placed.{Placed, Stands, frame_label}
+use Rattle.gv_guest.specs.Placed.{Placed, Hosts, frame_label}
 use Rattle.gv_nodes.specs.NodeMap.{NodeMap}
 use Rattle.gv_rmap.specs.Leaves.{leaf_at}
 use Rattle.gv_rmap.specs.Chains.{ReverseMap, chain_of}
@@ -76,7 +76,7 @@ labels_differ g l a b = true≢false (ap shadow_of (sym a ∙ b))
     shadow_of (Some l) = l.shadow
 
 module _ (d : Device) (placed : Placed) (nodes : NodeMap) (chains : ReverseMap) (owners : List ℕ) (told : List Bool)
-    (stands : Stands d placed) (sound : Sound d placed nodes chains owners told) where
+    (stands : Hosts d placed) (sound : Sound d placed nodes chains owners told) where
   abbrev pub readings : Readings
   readings = readings_in d.words owners (pages_in nodes)
 

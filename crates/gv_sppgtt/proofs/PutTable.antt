@@ -5,7 +5,7 @@ use Rattle.gv_entry.specs.declared.process.Process.{Process}
 use Rattle.gv_entry.specs.declared.process.Process.TheVariants.{Absent, Table, Page, Bad, Large}
 use Rattle.gv_entry.specs.Tables.{names}
 use Rattle.gv_gpu.specs.Device.{Device, poked}
-use Rattle.gv_guest.specs.Placed.{Placed, Stands}
+use Rattle.gv_guest.specs.Placed.{Placed, Hosts}
 use Rattle.gv_nodes.specs.NodeMap.{NodeMap}
 use Rattle.gv_rmap.specs.Chains.{ReverseMap}
 use Rattle.gv_shape.specs.Shadow.{Pages, Readings, Names, table_word, has_leaves, split_word}

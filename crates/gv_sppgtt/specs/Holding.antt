@@ -2,7 +2,7 @@
 use Rattle.std.specs.Prelude.{ℕ, ◌+◌, ◌/◌, ◌≤◌, ◌≡◌, false, List, length, slice_index}
 use Rattle.gv_gpu.specs.Device.{Device}
 use Rattle.gv_gpu.specs.Part.{outside}
-use Rattle.gv_guest.specs.Placed.{Placed, Stands, memory_in}
+use Rattle.gv_guest.specs.Placed.{Placed, Hosts, memory_in}
 use Rattle.gv_nodes.specs.NodeMap.{AreNodes}
 use Rattle.gv_sppgtt.specs.State.{IsSound, IsPinned, HasRoom, own_part, is_table, pages_of, readings_of}
 use Rattle.gv_shape.specs.Counts.{leaves}
@@ -10,7 +10,7 @@ use Rattle.gv_sppgtt.specs.Sound.{flag}
 use Rattle.gv_sppgtt.specs.declared.tables.Tables.{Tables}
 
 pub record Holds (d : Device) (placed : Placed) (t : Tables) (pins : List ℕ) : Type 0 where
-  pub stands : Stands d placed
+  pub stands : Hosts d placed
   pub sound : IsSound d placed t
   pub pinned : IsPinned d placed t pins
   pub guest : t.guest.0 ≡ placed.guest

@@ -2,7 +2,7 @@ ghost use Rattle.std.specs.Prelude.{◌≡◌, ℕ, ◌+◌, ◌-◌, ◌*◌, �
 ghost use Rattle.gv_entry.specs.Tables.{has_bad_entry, entry_of};
 ghost use Rattle.gv_entry.specs.declared.process.Process.TheVariants.{Absent, Page, Table};
 ghost use Rattle.gv_gpu.specs.Device.{poked};
-ghost use Rattle.gv_guest.specs.Placed.{Stands, memory_in};
+ghost use Rattle.gv_guest.specs.Placed.{Hosts, memory_in};
 ghost use Rattle.gv_nodes.specs.NodeMap.{IsKeyOf, AreNodes, parents_of as parents_under};
 ghost use Rattle.gv_shape.specs.Shadow.{is_live, has_leaves, split_level, wanted};
 ghost use Rattle.gv_shape.specs.Counts.{namings, naming, names_node, above, one_if};
@@ -30,7 +30,7 @@ impl Tables {
         index: u16,
         child: Option<Child>,
     )
-        requires stands { Stands (G.state gpu.old) frames.now }
+        requires stands { Hosts (G.state gpu.old) frames.now }
         requires sound { IsSound (G.state gpu.old) frames.now self.old }
         requires node { pages_of self.old level table ≡ Some page }
         requires high { 2 ≤ level }
@@ -202,7 +202,7 @@ impl Tables {
         level: u8,
         index: u16,
     ) -> Process
-        requires stands { Stands (G.state gpu.now) frames.now }
+        requires stands { Hosts (G.state gpu.now) frames.now }
         requires frame { frame < length frames.now.pages }
         requires few { length frames.now.pages ≤ 16384 }
         requires low { 1 ≤ level }
@@ -223,7 +223,7 @@ impl Tables {
         level: u8,
         index: u16,
     ) -> Word
-        requires stands { Stands (G.state gpu.now) frames.now }
+        requires stands { Hosts (G.state gpu.now) frames.now }
         requires frame { frame < length frames.now.pages }
         requires few { length frames.now.pages ≤ 16384 }
         requires whole { IsWhole (length frames.now.pages) level frame }

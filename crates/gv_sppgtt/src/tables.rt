@@ -6,7 +6,7 @@ ghost use Rattle.gv_rmap.specs.Chains.{chain_of};
 ghost use Rattle.gv_shape.specs.Shadow.{leaf_word, has_leaves, Names, Pages};
 ghost use Rattle.gv_shape.specs.Counts.{leaves, maps, one_if};
 ghost use Rattle.gv_gpu.specs.Device.{poked};
-ghost use Rattle.gv_guest.specs.Placed.{Stands};
+ghost use Rattle.gv_guest.specs.Placed.{Hosts};
 ghost use Rattle.gv_sppgtt.specs.Sound.{decode, flag, leaf_of, leaf_entry, place_leaf, IsLinked, Enters};
 ghost use Rattle.gv_sppgtt.specs.State.{pages_of, readings_of, IsSound, IsPinned};
 
@@ -68,6 +68,7 @@ pub struct Tables {
 
 /// Frames are told of in blocks of so many.
 pub(crate) const BLOCK: usize = 128;
+
 pub(crate) const BLOCKS: usize = 128;
 
 impl Tables {
@@ -124,7 +125,7 @@ impl Tables {
         index: u16,
         leaf: Option<(u32, bool)>,
     )
-        requires stands { Stands (G.state gpu.old) frames.now }
+        requires stands { Hosts (G.state gpu.old) frames.now }
         requires sound { IsSound (G.state gpu.old) frames.now self.old }
         requires few { length frames.now.pages ≤ 16384 }
         requires pinned { IsPinned (G.state gpu.old) frames.now self.old pins.old }

@@ -9,7 +9,7 @@ use Rattle.gv_gpu.specs.Part.{Part, outside, frames_part, entries_part, standing
 use Rattle.gv_gpu.proofs.Changes.{leaves}
 use Rattle.gv_gpu.proofs.Guests.{apart-frames-entries}
 use Rattle.gv_gpu.proofs.Seen.{general-same, loaded-same, general-others, loaded-others}
-use Rattle.gv_guest.specs.Placed.{Stands, frame_label}
+use Rattle.gv_guest.specs.Placed.{Hosts, frame_label}
 use Rattle.gv_guest.proofs.Kept.{stands-kept, memory-kept}
 use Rattle.gv_sggtt.proofs.Kept.{mirrors-kept}
 use Rattle.gv_vgpu.specs.Device.{PrivateDevice, zero_registers}
@@ -42,7 +42,7 @@ module _ (p : Part) (d e : Device) (none : (k : ℕ) → p.engine k ≡ false) w
 
 -- What changes the guest's frames alone leaves its global table.
 module _ (n : ℕ) (d e : Device) (v : Vgpu) (changes : ChangesOnly (frames_part (number_of v)) n d e) where
-  pub tables-written : HoldsTables d v → Stands e v.memory.frames → HoldsTables e v
+  pub tables-written : HoldsTables d v → Hosts e v.memory.frames → HoldsTables e v
   tables-written holds stands = record {
     stands = stands;
     frames = holds.frames;

@@ -5,7 +5,7 @@ use Rattle.gv_entry.specs.Ranges.{InParts}
 use Rattle.gv_gpu.specs.Device.{Device}
 use Rattle.gv_gpu.specs.Change.{ChangesOnly}
 use Rattle.gv_gpu.specs.Part.{Part, access_part}
-use Rattle.gv_guest.specs.Placed.{Placed, Stands, memory_in}
+use Rattle.gv_guest.specs.Placed.{Placed, Hosts, memory_in}
 use Rattle.gv_regs.specs.Registers.{map_of}
 use Rattle.gv_sggtt.specs.Mirror.{Mirrors}
 use Rattle.gv_sggtt.specs.Pins.{HasPins}
@@ -29,7 +29,7 @@ pub record AreIdle (d : Device) (here : ℕ → Bool) : Type 0 where
 -- The guest's memory stands and has the table's pins, and the physical entries of its ranges are those of its
 -- table, which guards no frame yet.
 pub record HoldsTables (d : Device) (v : Vgpu) : Type 0 where
-  pub stands : Stands d v.memory.frames
+  pub stands : Hosts d v.memory.frames
   pub frames : length v.memory.frames.pages ≡ v.table.frames
   pub mirrors : Mirrors d v.table v.memory.frames
   pub pinned : HasPins v.table v.memory.pins

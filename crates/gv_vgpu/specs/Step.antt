@@ -11,7 +11,7 @@ use Rattle.gv_types.specs.declared.reply.Answer.{Answer}
 use Rattle.gv_types.specs.declared.reply.Answer.TheVariants.{Nothing, Value, Turn as turned}
 use Rattle.gv_types.specs.declared.reply.Outcome.TheVariants.{Idle}
 use Rattle.gv_types.specs.declared.reply.Reply.{Reply}
-use Rattle.gv_gpu.specs.Device.{Entry}
+use Rattle.gv_gpu.specs.Device.{JournalEntry}
 use Rattle.gv_vgpu.specs.Device.{PrivateDevice, Written, quietly, aperture_read, aperture_written, range_read, range_written, function_reset}
 
 abbrev pub value_read : PrivateDevice → Place → Width → ℕ → ℕ
@@ -36,7 +36,7 @@ guest_of event = record { 0 = 0 }
 pub record Answered : Type 0 where
   pub reply : Reply
   pub left : PrivateDevice
-  pub ran : List Entry
+  pub ran : List JournalEntry
 
 -- an event that no interrupt comes of
 abbrev pub answered : PrivateDevice → GuestId → Answer → Answered

@@ -5,7 +5,7 @@ ghost use Rattle.gv_entry.specs.Ranges.{InParts, is_in};
 ghost use Rattle.gv_gpu.specs.Change.{ChangesOnly};
 ghost use Rattle.gv_gpu.specs.Device.{Device};
 ghost use Rattle.gv_gpu.specs.Part.{outside, frames_part, entries_part, access_part};
-ghost use Rattle.gv_guest.specs.Placed.{Stands, nowhere};
+ghost use Rattle.gv_guest.specs.Placed.{Hosts, nowhere};
 ghost use Rattle.gv_sggtt.specs.Mirror.{AreAbsent};
 ghost use Rattle.gv_sggtt.specs.Table.{table_grant};
 ghost use Rattle.gv_vgpu.specs.Access.{IsAccess};
@@ -17,7 +17,10 @@ use gv_guest::Memory;
 use gv_irq::Irq;
 use gv_regs::{Effect, Lookup, Registers, Target, engines_reset};
 use gv_sggtt::GlobalTable;
-use gv_types::{Answer, EngineId, Event, GuestId, OutOfMemory, PAGE_BYTES, Place, Ranges, Reply, Stop, Width, half, with_half};
+use gv_types::{
+    Answer, EngineId, Event, GuestId, OutOfMemory, PAGE_BYTES, Place, Ranges, Reply, Stop, Width,
+    half, with_half,
+};
 use std::alloc::Global;
 
 /// Where the global table begins in the register range.
@@ -50,7 +53,7 @@ impl Vgpu {
         requires few { frames ≤ 16384 }
         requires parts { InParts ranges }
         requires room { (G.state gpu.old).live + frames ≤ 131072 }
-        requires none { Stands (G.state gpu.old) (nowhere guest.0) }
+        requires none { Hosts (G.state gpu.old) (nowhere guest.0) }
         requires absent { AreAbsent (G.state gpu.old) ranges }
         ensures holds { IfOk result (λ v. (here : ℕ → Bool) → AreIdle (G.state gpu.old) here → Holds (G.state gpu.new) v here) }
         ensures device { IfOk result (λ v. (here : ℕ → Bool) → AreIdle (G.state gpu.old) here → private_of (G.state gpu.new) v here ≡ new_device guest.0 frames ranges) }
@@ -94,9 +97,11 @@ impl Vgpu {
         ensures { result ≡ aperture_read (idle_device (G.state gpu.now) self.now) width at }
     {
         match self.aperture_frame((at / PAGE_BYTES) as u32) {
-            Some(frame) => self
-                .memory
-                .read(gpu, u64::from(frame) * PAGE_BYTES + at % PAGE_BYTES, width),
+            Some(frame) => self.memory.read(
+                gpu,
+                u64::from(frame) * PAGE_BYTES + at % PAGE_BYTES,
+                width,
+            ),
             None => 0,
         }
     }
@@ -111,8 +116,12 @@ impl Vgpu {
         ensures changes { ChangesOnly (frames_part (number_of self.now)) 1 (G.state gpu.old) (G.state gpu.new) }
     {
         if let Some(frame) = self.aperture_frame((at / PAGE_BYTES) as u32) {
-            self.memory
-                .write(gpu, u64::from(frame) * PAGE_BYTES + at % PAGE_BYTES, width, value);
+            self.memory.write(
+                gpu,
+                u64::from(frame) * PAGE_BYTES + at % PAGE_BYTES,
+                width,
+                value,
+            );
         }
     }
 

@@ -1,6 +1,6 @@
 //! A guest's memory and its global table, over the device in memory.
 ghost use Rattle.std.specs.Prelude.{◌≡◌, IfOk, length};
-ghost use Rattle.gv_guest.specs.Placed.{Stands};
+ghost use Rattle.gv_guest.specs.Placed.{Hosts};
 ghost use Rattle.gv_sggtt.specs.Mirror.{Mirrors};
 ghost use Rattle.gv_sggtt.specs.Pins.{HasPins};
 ghost use Rattle.gv_sggtt.specs.Table.{zero_table};
@@ -23,7 +23,7 @@ const RANGES: Ranges = Ranges {
 };
 
 fn guest(alloc: Global) -> Result<(SoftGpu, Memory, GlobalTable), OutOfMemory>
-    ensures stands { IfOk result (λ made. Stands (⟦<SoftGpu as Gpu>⟧.state made.0) made.1.frames) }
+    ensures stands { IfOk result (λ made. Hosts (⟦<SoftGpu as Gpu>⟧.state made.0) made.1.frames) }
     ensures frames { IfOk result (λ made. length made.1.frames.pages ≡ made.2.frames) }
     ensures mirrors { IfOk result (λ made. Mirrors (⟦<SoftGpu as Gpu>⟧.state made.0) made.2 made.1.frames) }
     ensures pinned { IfOk result (λ made. HasPins made.2 made.1.pins) }

@@ -3,7 +3,7 @@ use Rattle.std.proofs.lemmas.List.{get_or_default}
 use Rattle.gv_types.specs.declared.ids.GuestId.{GuestId}
 use Rattle.gv_gpu.proofs.Changes.{ran-nothing}
 use Rattle.gv_gpu.specs.Change.{Ran}
-use Rattle.gv_gpu.specs.Device.{Entry}
+use Rattle.gv_gpu.specs.Device.{JournalEntry}
 use Rattle.gv_vgpu.specs.Device.{PrivateDevice}
 use Rattle.gv_vgpu.specs.Holds.{Holds, private_of}
 use Rattle.gv_vgpu.specs.Step.{answer}
@@ -59,4 +59,4 @@ returns-clause-ran g c =
     let d = g.G.Gpu.state c.args.gpu.now in
     let e = g.G.Gpu.state c.answer.new.gpu in
     let p = device_at (machine_in d first_owner c.args.guests.now) _ in
-    subst (λ (ran : List Entry). Ran d e ran) (sym (answer-quiet p c.args.event.now)) (ran-nothing c.answer.ensures.keeps.changes)
+    subst (λ (ran : List JournalEntry). Ran d e ran) (sym (answer-quiet p c.args.event.now)) (ran-nothing c.answer.ensures.keeps.changes)

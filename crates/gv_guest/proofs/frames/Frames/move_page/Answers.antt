@@ -6,7 +6,7 @@ use Rattle.gv_types.specs.Memory.{zero_words, length-zero_words}
 use Rattle.gv_gpu.specs.Device.{Device}
 use Rattle.gv_gpu.specs.Change.{ChangesOnly}
 use Rattle.gv_gpu.specs.Part.{frames_part}
-use Rattle.gv_guest.specs.Placed.{Placed, Stands, memory_in}
+use Rattle.gv_guest.specs.Placed.{Placed, Hosts, memory_in}
 use Rattle.gv_guest.proofs.Moved.{stands-after, memory-after, changes-after}
 use Rattle.gv_guest.proofs.frames.Frames.move_page.Goals as goal
 
@@ -20,7 +20,7 @@ pub returns-clause-memory : goal.returns-clause-memory
 returns-clause-memory g c =
     let d = g.G.Gpu.state c.args.gpu.now in
     let placed : Placed = record { guest = c.self.inside.guest.0; pages = c.self.inside.pages.items } in
-    let stands = subst (λ (p : Placed). Stands d p) (sym c.self.view_is) c.requires.stands in
+    let stands = subst (λ (p : Placed). Hosts d p) (sym c.self.view_is) c.requires.stands in
     let within = subst (λ (p : Placed). c.args.frame < length p.pages) (sym c.self.view_is) c.requires.within in
     let given = c.in_ok-page.ensures in
     memory-after d (g.G.Gpu.state c.add_page.new.self) (g.G.Gpu.state c.copy_words.new.gpu) (g.G.Gpu.state c.release.new.self) placed c.args.frame c.in_ok-page.page c.index-old.result.now stands within (get_or_read c.self.inside.pages.items c.args.frame _ within c.index-old.ensures 0) given.fresh given.empty given.below given.ok c.copy_words.ensures c.release.ensures
@@ -30,7 +30,7 @@ pub returns-clause-stands : goal.returns-clause-stands
 returns-clause-stands g c =
     let d = g.G.Gpu.state c.args.gpu.now in
     let placed : Placed = record { guest = c.self.inside.guest.0; pages = c.self.inside.pages.items } in
-    let stands = subst (λ (p : Placed). Stands d p) (sym c.self.view_is) c.requires.stands in
+    let stands = subst (λ (p : Placed). Hosts d p) (sym c.self.view_is) c.requires.stands in
     let within = subst (λ (p : Placed). c.args.frame < length p.pages) (sym c.self.view_is) c.requires.within in
     let given = c.in_ok-page.ensures in
     stands-after d (g.G.Gpu.state c.add_page.new.self) (g.G.Gpu.state c.copy_words.new.gpu) (g.G.Gpu.state c.release.new.self) placed c.args.frame c.in_ok-page.page c.index-old.result.now stands within (get_or_read c.self.inside.pages.items c.args.frame _ within c.index-old.ensures 0) given.fresh given.empty given.below given.ok c.copy_words.ensures c.release.ensures
@@ -39,7 +39,7 @@ pub returns-clause-changes : goal.returns-clause-changes
 returns-clause-changes g c =
     let d = g.G.Gpu.state c.args.gpu.now in
     let placed : Placed = record { guest = c.self.inside.guest.0; pages = c.self.inside.pages.items } in
-    let stands = subst (λ (p : Placed). Stands d p) (sym c.self.view_is) c.requires.stands in
+    let stands = subst (λ (p : Placed). Hosts d p) (sym c.self.view_is) c.requires.stands in
     let within = subst (λ (p : Placed). c.args.frame < length p.pages) (sym c.self.view_is) c.requires.within in
     let given = c.in_ok-page.ensures in
     subst (λ (p : Placed). ChangesOnly (frames_part p.guest) 512 d (g.G.Gpu.state c.release.new.self)) c.self.view_is

@@ -1,7 +1,7 @@
 use Rattle.std.proofs.Common.{◌≡◌, ◌+◌, ◌≤◌, vec_len, vec_capacity}
 use Rattle.gv_types.specs.Memory.{zero_memory}
 use Rattle.gv_gpu.specs.Part.{outside, frames_part}
-use Rattle.gv_guest.specs.Placed.{Placed, Stands, memory_in}
+use Rattle.gv_guest.specs.Placed.{Placed, Hosts, memory_in}
 use Rattle.gv_guest.proofs.frames.Frames.new.Given as goal
 
 abbrev pub invariant-loop-frame : goal.invariant-loop-frame
@@ -10,7 +10,7 @@ invariant-loop-frame g l =
     let start = g.G.Gpu.state l.fn.gpu in
     let placed : Placed = record { guest = l.guest.0; pages = l.pages.items } in
     record {
-      stands : Stands now placed;
+      stands : Hosts now placed;
       memory : memory_in now placed ≡ zero_memory l._frame;
       frames : vec_len l.pages ≡ l._frame;
       room : l.frames ≤ vec_capacity l.pages;

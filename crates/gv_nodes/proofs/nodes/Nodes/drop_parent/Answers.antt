@@ -2,7 +2,7 @@ use Rattle.std.proofs.Common.{ℕ, ◌-◌, ap, sym, subst, ◌∙◌, arith, eq
 use Rattle.gv_nodes.specs.NodeMap.{NodeMap, parents_of, recounted, node_at, with_parents, ChangesNode}
 use Rattle.slab.specs.Slab.{with_value}
 use Rattle.gv_nodes.proofs.Lookups.{changes-with_parents}
-use Rattle.gv_nodes.proofs.Places.{contains, parents_now, parents_left, are_nodes, keys-parents, view-parents}
+use Rattle.gv_nodes.proofs.Positions.{contains, parents_now, parents_left, are_nodes, keys-parents, view-parents}
 use Rattle.gv_nodes.proofs.nodes.Nodes.drop_parent.Goals as goal
 
 pub index_mut-node-requires : goal.index_mut-node-requires

@@ -1,5 +1,5 @@
 use Rattle.std.proofs.Common.{◌∙◌}
-use Rattle.gv_nodes.proofs.Places.{under, contains, all_nodes}
+use Rattle.gv_nodes.proofs.Positions.{under, contains, all_nodes}
 use Rattle.gv_nodes.proofs.nodes.Nodes.node.Goals as goal
 
 pub index-requires : goal.index-requires

@@ -11,22 +11,22 @@ use Rattle.slab.proofs.SlabLemmas.{ContainsKey-within, Updates-with_value}
 use Rattle.gv_nodes.specs.declared.nodes.Node.{Node}
 use Rattle.gv_nodes.specs.declared.nodes.Nodes.TheInside.{Inside}
 use Rattle.gv_nodes.specs.NodeMap.{NodeMap, node_at, IsKeyOf, IsAbsent, IsPlaced, AreNodes, HasNode, parents_of, with_node, inserted, removed, recounted, with_parents}
-use Rattle.gv_nodes.specs.Keys.{place_of, key_at, node_map, AreKeys}
+use Rattle.gv_nodes.specs.Keys.{position_of, key_at, node_map, AreKeys}
 use Rattle.gv_nodes.proofs.Lookups.{get-map_of, map_of-updates}
 
--- a place is that of one frame and level
-same_place-frame : (f g j k : ℕ) → 1 ≤ j → j ≤ 6 → 1 ≤ k → k ≤ 6 → place_of f j ≡ place_of g k → f ≡ g
-same_place-frame f g j k one six one' six' same = omega arith
+-- a position is that of one frame and level
+same_position-frame : (f g j k : ℕ) → 1 ≤ j → j ≤ 6 → 1 ≤ k → k ≤ 6 → position_of f j ≡ position_of g k → f ≡ g
+same_position-frame f g j k one six one' six' same = omega arith
 
-same_place-level : (f g j k : ℕ) → 1 ≤ j → j ≤ 6 → 1 ≤ k → k ≤ 6 → place_of f j ≡ place_of g k → j ≡ k
-same_place-level f g j k one six one' six' same = omega arith
+same_position-level : (f g j k : ℕ) → 1 ≤ j → j ≤ 6 → 1 ≤ k → k ≤ 6 → position_of f j ≡ position_of g k → j ≡ k
+same_position-level f g j k one six one' six' same = omega arith
 
 module _ (keys : List (Option ℕ)) (tables : Slab Node) (frames spare : ℕ) where
   -- what the map has under a key is what the slab has
   pub node_at-map : (key : ℕ) → node_at (node_map frames tables spare) key ≡ get tables key
   node_at-map key = get-map_of tables key
 
-  -- the key of a frame's node at a level stands in its place
+  -- the key of a frame's node at a level stands in its position
   pub listed_key : AreKeys keys tables frames spare → (frame level key : ℕ) → IsKeyOf (node_map frames tables spare) frame level key → key_at keys frame level ≡ Some key
   listed_key kept frame level key is =
       let there = kept.listed key is.node (sym (node_at-map key) ∙ is.under) in
@@ -40,13 +40,13 @@ module _ (keys : List (Option ℕ)) (tables : Slab Node) (frames spare : ℕ) wh
 
   pub found_key : AreKeys keys tables frames spare → (frame level key : ℕ) → 1 ≤ level → level ≤ 6 → key_at keys frame level ≡ Some key → IsKeyOf (node_map frames tables spare) frame level key
   found_key kept frame level key low high listed =
-      let found = kept.kept (place_of frame level) key listed in
+      let found = kept.kept (position_of frame level) key listed in
       let placed = kept.placed key found.0 found.1 in
       record {
         node = found.0;
         under = node_at-map key ∙ found.1;
-        of_frame = same_place-frame found.0.frame frame found.0.level level placed.low placed.high low high found.2;
-        at_level = same_place-level found.0.frame frame found.0.level level placed.low placed.high low high found.2;
+        of_frame = same_position-frame found.0.frame frame found.0.level level placed.low placed.high low high found.2;
+        at_level = same_position-level found.0.frame frame found.0.level level placed.low placed.high low high found.2;
       }
 
   -- what `find` answers
@@ -67,33 +67,33 @@ module _ (keys : List (Option ℕ)) (tables : Slab Node) (frames spare : ℕ) wh
 abbrev one_key : Option ℕ → ℕ
 one_key o = cond (is_some o) 1 0
 
--- one place of the list is written: how many keys there are then
-count-put : (keys : List (Option ℕ)) (place key : ℕ) → place < length keys → get_or keys place None ≡ None → count_by is_some (set keys place (Some key)) ≡ count_by is_some keys + 1
-count-put keys place key within free =
-    let counted = sum_by-set one_key keys place (Some key) None within in
-    let none : one_key (get_or keys place None) ≡ 0 = ap one_key free in
+-- one position of the list is written: how many keys there are then
+count-put : (keys : List (Option ℕ)) (position key : ℕ) → position < length keys → get_or keys position None ≡ None → count_by is_some (set keys position (Some key)) ≡ count_by is_some keys + 1
+count-put keys position key within free =
+    let counted = sum_by-set one_key keys position (Some key) None within in
+    let none : one_key (get_or keys position None) ≡ 0 = ap one_key free in
     omega (arith, none, counted)
 
-count-take : (keys : List (Option ℕ)) (place key : ℕ) → place < length keys → get_or keys place None ≡ Some key → count_by is_some (set keys place None) + 1 ≡ count_by is_some keys
-count-take keys place key within there =
-    let counted = sum_by-set one_key keys place None None within in
-    let one : one_key (get_or keys place None) ≡ 1 = ap one_key there in
+count-take : (keys : List (Option ℕ)) (position key : ℕ) → position < length keys → get_or keys position None ≡ Some key → count_by is_some (set keys position None) + 1 ≡ count_by is_some keys
+count-take keys position key within there =
+    let counted = sum_by-set one_key keys position None None within in
+    let one : one_key (get_or keys position None) ≡ 1 = ap one_key there in
     omega (arith, one, counted)
 
-place_within : (frames frame level n : ℕ) → frame < frames → 1 ≤ level → level ≤ 6 → n ≡ frames * 6 → place_of frame level < n
-place_within frames frame level n small low high is = omega arith
+position_within : (frames frame level n : ℕ) → frame < frames → 1 ≤ level → level ≤ 6 → n ≡ frames * 6 → position_of frame level < n
+position_within frames frame level n small low high is = omega arith
 
 module _ (keys : List (Option ℕ)) (old new : Slab Node) (frames spare : ℕ) (are : AreKeys keys old frames spare) where
-  -- a node is put under a key that had none, and the key into the node's place
+  -- a node is put under a key that had none, and the key into the node's position
   pub keys-put : (key : ℕ) (node : Node) → IsPlaced frames node → key_at keys node.frame node.level ≡ None → get old key ≡ None → Updates old new key (Some node)
       → slab_len new ≡ slab_len old + 1 → new.capacity ≡ old.capacity → 1 ≤ spare
-      → AreKeys (set keys (place_of node.frame node.level) (Some key)) new frames (spare - 1)
+      → AreKeys (set keys (position_of node.frame node.level) (Some key)) new frames (spare - 1)
   keys-put key node placed free fresh updates len capacity some =
-      let place = place_of node.frame node.level in
-      let after = set keys place (Some key) in
-      let within : place < length keys = place_within frames node.frame node.level (length keys) placed.frame placed.low placed.high are.places in
+      let position = position_of node.frame node.level in
+      let after = set keys position (Some key) in
+      let within : position < length keys = position_within frames node.frame node.level (length keys) placed.frame placed.low placed.high are.positions in
       record {
-        places = length-set keys place (Some key) ∙ are.places;
+        positions = length-set keys position (Some key) ∙ are.positions;
         placed = λ k n under. elim (cases_eq k key) [
           | inl same ↦
               let both : Some n ≡ Some node = sym under ∙ ap (get new) same ∙ updates.changed in
@@ -105,54 +105,54 @@ module _ (keys : List (Option ℕ)) (old new : Slab Node) (frames spare : ℕ) (
           | inl same ↦
               let both : Some n ≡ Some node = sym under ∙ ap (get new) same ∙ updates.changed in
               let is : n ≡ node = cc in
-              ap (λ (m : Node). key_at after m.frame m.level) is ∙ get_or-set_same keys place (Some key) None within ∙ ap Some (sym same)
+              ap (λ (m : Node). key_at after m.frame m.level) is ∙ get_or-set_same keys position (Some key) None within ∙ ap Some (sym same)
           | inr apart ↦
               let there = are.listed k n (sym (updates.others k apart) ∙ under) in
-              let elsewhere : place_of n.frame n.level ≢ place = λ e. absurd (let here = ap (λ (p : ℕ). get_or keys p None) e in cc) in
-              get_or-set_other keys place (place_of n.frame n.level) (Some key) None elsewhere ∙ there
+              let elsewhere : position_of n.frame n.level ≢ position = λ e. absurd (let here = ap (λ (p : ℕ). get_or keys p None) e in cc) in
+              get_or-set_other keys position (position_of n.frame n.level) (Some key) None elsewhere ∙ there
         ];
-        kept = λ p k there. elim (cases_eq p place) [
+        kept = λ p k there. elim (cases_eq p position) [
           | inl same ↦
-              let both : Some k ≡ Some key = sym there ∙ ap (λ (q : ℕ). get_or after q None) same ∙ get_or-set_same keys place (Some key) None within in
+              let both : Some k ≡ Some key = sym there ∙ ap (λ (q : ℕ). get_or after q None) same ∙ get_or-set_same keys position (Some key) None within in
               let is : k ≡ key = cc in
               (node, ap (get new) is ∙ updates.changed, sym same)
           | inr apart ↦
-              let was = are.kept p k (sym (get_or-set_other keys place p (Some key) None apart) ∙ there) in
+              let was = are.kept p k (sym (get_or-set_other keys position p (Some key) None apart) ∙ there) in
               let other : k ≢ key = λ e. absurd (let had = ap (get old) e in let it = was.1 in cc) in
               (was.0, updates.others k other ∙ was.1, was.2)
         ];
-        count = count-put keys place key within free ∙ ap (λ n. n + 1) are.count ∙ sym len;
+        count = count-put keys position key within free ∙ ap (λ n. n + 1) are.count ∙ sym len;
         room = let room = are.room in omega arith;
         bounded = let bounded = are.bounded in omega arith;
       }
 
-  -- a node is taken out, and its key out of its place
+  -- a node is taken out, and its key out of its position
   pub keys-take : (key : ℕ) (node : Node) → get old key ≡ Some node → Updates old new key None
       → slab_len new + 1 ≡ slab_len old → new.capacity ≡ old.capacity
-      → AreKeys (set keys (place_of node.frame node.level) None) new frames (spare + 1)
+      → AreKeys (set keys (position_of node.frame node.level) None) new frames (spare + 1)
   keys-take key node there updates len capacity =
       let placed = are.placed key node there in
-      let place = place_of node.frame node.level in
-      let after = set keys place None in
+      let position = position_of node.frame node.level in
+      let after = set keys position None in
       let listed = are.listed key node there in
-      let within : place < length keys = place_within frames node.frame node.level (length keys) placed.frame placed.low placed.high are.places in
+      let within : position < length keys = position_within frames node.frame node.level (length keys) placed.frame placed.low placed.high are.positions in
       let other : (k : ℕ) (n : Node) → get new k ≡ Some n → k ≢ key = λ k n under e. absurd (let it = ap (get new) e in let gone = updates.changed in cc) in
       let before : (k : ℕ) (n : Node) → get new k ≡ Some n → get old k ≡ Some n = λ k n under. sym (updates.others k (other k n under)) ∙ under in
       record {
-        places = length-set keys place None ∙ are.places;
+        positions = length-set keys position None ∙ are.positions;
         placed = λ k n under. are.placed k n (before k n under);
         listed = λ k n under.
             let there = are.listed k n (before k n under) in
-            let elsewhere : place_of n.frame n.level ≢ place = λ e. absurd (other k n under (let here = ap (λ (p : ℕ). get_or keys p None) e in cc)) in
-            get_or-set_other keys place (place_of n.frame n.level) None None elsewhere ∙ there;
-        kept = λ p k stands. elim (cases_eq p place) [
-          | inl same ↦ absurd (let none = sym stands ∙ ap (λ (q : ℕ). get_or after q None) same ∙ get_or-set_same keys place None None within in cc)
+            let elsewhere : position_of n.frame n.level ≢ position = λ e. absurd (other k n under (let here = ap (λ (p : ℕ). get_or keys p None) e in cc)) in
+            get_or-set_other keys position (position_of n.frame n.level) None None elsewhere ∙ there;
+        kept = λ p k stands. elim (cases_eq p position) [
+          | inl same ↦ absurd (let none = sym stands ∙ ap (λ (q : ℕ). get_or after q None) same ∙ get_or-set_same keys position None None within in cc)
           | inr apart ↦
-              let was = are.kept p k (sym (get_or-set_other keys place p None None apart) ∙ stands) in
-              let other : k ≢ key = λ e. absurd (apart (let had = ap (get old) e in let it = was.1 in let both : was.0 ≡ node = cc in sym was.2 ∙ ap (λ (n : Node). place_of n.frame n.level) both)) in
+              let was = are.kept p k (sym (get_or-set_other keys position p None None apart) ∙ stands) in
+              let other : k ≢ key = λ e. absurd (apart (let had = ap (get old) e in let it = was.1 in let both : was.0 ≡ node = cc in sym was.2 ∙ ap (λ (n : Node). position_of n.frame n.level) both)) in
               (was.0, updates.others k other ∙ was.1, was.2)
         ];
-        count = let counted = count-take keys place key within listed in let counts = are.count in omega arith;
+        count = let counted = count-take keys position key within listed in let counts = are.count in omega arith;
         room = let room = are.room in omega arith;
         bounded = let bounded = are.bounded in omega arith;
       }
@@ -163,7 +163,7 @@ module _ (keys : List (Option ℕ)) (old new : Slab Node) (frames spare : ℕ) (
   keys-replace key node other there frame level updates len capacity =
       let placed = are.placed key node there in
       record {
-        places = are.places;
+        positions = are.positions;
         placed = λ k n under. elim (cases_eq k key) [
           | inl same ↦
               let both : Some n ≡ Some other = sym under ∙ ap (get new) same ∙ updates.changed in
@@ -186,7 +186,7 @@ module _ (keys : List (Option ℕ)) (old new : Slab Node) (frames spare : ℕ) (
               let had = ap (get old) same in
               let it = was.1 in
               let both : node ≡ was.0 = cc in
-              (other, ap (get new) same ∙ updates.changed, ap (λ (f : ℕ). place_of f other.level) frame ∙ ap (λ (l : ℕ). place_of node.frame l) level ∙ ap (λ (m : Node). place_of m.frame m.level) both ∙ was.2)
+              (other, ap (get new) same ∙ updates.changed, ap (λ (f : ℕ). position_of f other.level) frame ∙ ap (λ (l : ℕ). position_of node.frame l) level ∙ ap (λ (m : Node). position_of m.frame m.level) both ∙ was.2)
           | inr apart ↦ (was.0, updates.others k apart ∙ was.1, was.2)
         ];
         count = are.count ∙ sym len;
@@ -264,19 +264,19 @@ module _ (s : Inside) (now : NodeMap) (seen : node_map s.frames s.tables s.spare
   pub frame_within : (frame : ℕ) → frame < now.frames → frame < s.frames
   frame_within frame within = let same = ap (λ (m : NodeMap). m.frames) seen in omega arith
 
-  module _ (are : AreKeys s.keys.items s.tables s.frames s.spare) (frame level place : ℕ) (within : frame < now.frames) (low : 1 ≤ level) (high : level ≤ 6) (is_place : place ≡ place_of frame level) where
-    -- what is read at the place
-    read : (o : Option ℕ) → o ≡ get_or s.keys.items place o → o ≡ key_at s.keys.items frame level
+  module _ (are : AreKeys s.keys.items s.tables s.frames s.spare) (frame level position : ℕ) (within : frame < now.frames) (low : 1 ≤ level) (high : level ≤ 6) (is_position : position ≡ position_of frame level) where
+    -- what is read at the position
+    read : (o : Option ℕ) → o ≡ get_or s.keys.items position o → o ≡ key_at s.keys.items frame level
     read o there =
-        let inside : place < length s.keys.items = rw is_place (place_within s.frames frame level (length s.keys.items) (frame_within frame within) low high are.places) in
-        there ∙ get_or_default s.keys.items place o None inside ∙ ap (λ (p : ℕ). get_or s.keys.items p None) is_place
+        let inside : position < length s.keys.items = rw is_position (position_within s.frames frame level (length s.keys.items) (frame_within frame within) low high are.positions) in
+        there ∙ get_or_default s.keys.items position o None inside ∙ ap (λ (p : ℕ). get_or s.keys.items p None) is_position
 
-    pub found_now : (o : Option ℕ) → o ≡ get_or s.keys.items place o → IfSome o (IsKeyOf now frame level)
+    pub found_now : (o : Option ℕ) → o ≡ get_or s.keys.items position o → IfSome o (IsKeyOf now frame level)
     found_now o there =
         subst (λ (m : NodeMap). IfSome o (IsKeyOf m frame level)) seen
         (found s.keys.items s.tables s.frames s.spare are frame level low high o (read o there))
 
-    pub none_now : (o : Option ℕ) → o ≡ get_or s.keys.items place o → IfNone o (IsAbsent now frame level)
+    pub none_now : (o : Option ℕ) → o ≡ get_or s.keys.items position o → IfNone o (IsAbsent now frame level)
     none_now o there =
         subst (λ (m : NodeMap). IfNone o (IsAbsent m frame level)) seen
         (none s.keys.items s.tables s.frames s.spare are frame level o (read o there))
