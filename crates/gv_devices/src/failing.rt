@@ -1,4 +1,4 @@
-ghost use Rattle.std.specs.Prelude.{◌≡◌, ℕ, ◌+◌, ◌<◌, ◌≤◌, ◌↔◌, Contains, IsTrue, map, slice_index, IfOk, OnOk, OnErr, IsOk, IsErr, IsSome, None, [], true, false};
+ghost use Rattle.std.specs.Prelude.{◌≡◌, ℕ, ◌+◌, ◌<◌, ◌≤◌, ◌↔◌, Contains, IsTrue, map, IfOk, OnOk, OnErr, IsOk, IsErr, IsSome, None, [], true, false};
 ghost use Rattle.gv_gpu.specs.Device.{IsEmpty, counted, added, released, poked, with_global, with_general, with_spare, with_faults};
 ghost use Rattle.gv_gpu.specs.Context.{submitted, stopped};
 ghost use Rattle.gv_gpu.specs.Step.{physical_step};
@@ -170,12 +170,7 @@ impl Gpu for FailingGpu {
         self.inner.set_general(engine, n, value);
     }
 
-    fn submit(
-        &mut self,
-        engine: EngineId,
-        owner: GuestId,
-        descriptor: u64,
-    ) -> Result<(), GpuFailed>
+    fn submit(&mut self, engine: EngineId, owner: GuestId, descriptor: u64) -> Result<(), GpuFailed>
         requires { engine.0 < 4 }
         ensures ok { OnOk result (whole self.new ≡ submitted (whole self.old) engine.0 owner.0 descriptor) }
         ensures err { OnErr result (whole self.new ≡ with_faults (whole self.old) (counted (whole self.old).faults)) }

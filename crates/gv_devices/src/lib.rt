@@ -8,6 +8,5 @@ mod failing;
 pub use counting::CountingGpu;
 pub use failing::FailingGpu;
 
-
 #[cfg(test)]
 mod tests;
