@@ -1,9 +1,9 @@
 -- Contexts are loaded and put away whatever the count of faults is.
-use Rattle.std.proofs.Common.{◌≡◌, ℕ, suc, zero, ◌+◌, ◌*◌, ◌/◌, ◌^◌, Bool, true, List, [], ◌∷◌, get_or, Option, None, Some, Result, Ok, Err, refl, ap, sym, ◌∙◌}
+use Rattle.std.proofs.Common.{◌≡◌, ℕ, suc, zero, ◌+◌, ◌*◌, ◌/◌, ◌^◌, true, List, [], ◌∷◌, get_or, Option, None, Some, Result, Ok, Err, refl, ap, sym, ◌∙◌}
 use Rattle.std.specs.Prelude.{OnOk}
 use Rattle.gv_ctx.specs.Saved.{fields_of, saved_of}
 use Rattle.gv_gpu.specs.Device.{Device, Loaded, with_loaded}
-use Rattle.gv_gpu.specs.Physical.{operand_at, operand_stored}
+use Rattle.gv_gpu.specs.Physical.{operand_stored}
 use Rattle.gv_gpu.specs.Context.{state_at, field_dwords, fields_stored, context_saved, context_of, loaded_after, submitted, stopped_with, stopped}
 use Rattle.gv_devices.proofs.Faults.{other, operand_at-other, operand_stored-other}
 

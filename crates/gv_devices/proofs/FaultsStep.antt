@@ -1,5 +1,5 @@
 -- A step does the same whatever the count of faults is.
-use Rattle.std.proofs.Common.{◌≡◌, ℕ, suc, zero, ◌+◌, ◌*◌, ◌/◌, ◌%◌, ◌^◌, ◌||◌, Bool, true, false, List, [], ◌∷◌, ◌++◌, Option, None, Some, Result, Ok, Err, cond, refl, ap, sym, ◌∙◌}
+use Rattle.std.proofs.Common.{◌≡◌, ℕ, suc, zero, ◌+◌, ◌*◌, ◌%◌, ◌^◌, ◌||◌, Bool, true, false, List, [], ◌∷◌, ◌++◌, Option, None, Some, Result, Ok, Err, cond, refl, ap, sym, ◌∙◌}
 use Rattle.std.specs.Prelude.{IfOk, OnOk}
 use Rattle.gv_cmd.specs.Allowed.{is_allowed}
 use Rattle.gv_cmd.specs.Command.{decoded}
@@ -10,8 +10,8 @@ use Rattle.gv_cmd.specs.declared.command.Unlisted.{Unlisted as UnlistedError}
 use Rattle.gv_cmd.specs.declared.kind.Kind.{Kind}
 use Rattle.gv_cmd.proofs.Simulation.{effects_agree}
 use Rattle.gv_gpu.specs.Device.{Device, Loaded, with_loaded}
-use Rattle.gv_gpu.specs.Physical.{byte_at, byte_stored, dword_at, dword_strays, read_strays, write_strays}
-use Rattle.gv_gpu.specs.Step.{Stepping, Stepped, Fetched, bytes_stored, bytes_stray, row_moved, operations, stands_of, is_privileged, front_at, dwords_stray, dwords_from, fetched_from, fetched, settled, ran_after, stepped_by, stepped_with, command_step, front_step, has_ended, step_with, physical_step}
+use Rattle.gv_gpu.specs.Physical.{byte_at, byte_stored, dword_at, write_strays}
+use Rattle.gv_gpu.specs.Step.{Stepping, Stepped, Fetched, bytes_stored, bytes_stray, row_moved, operations, stands_of, is_privileged, front_at, dwords_stray, dwords_from, fetched_from, fetched, settled, stepped_by, stepped_with, command_step, front_step, has_ended, step_with, physical_step}
 use Rattle.gv_gpu.specs.declared.step.Step.{Step}
 use Rattle.gv_gpu.specs.declared.step.Step.TheVariants.{Ended, Unlisted}
 use Rattle.gv_devices.proofs.Faults.{other, operand_at-other, operand_stored-other, byte_at-other, byte_stored-other, dword_at-other, read_strays-other, dword_strays-other, write_strays-other}

@@ -1,4 +1,4 @@
-ghost use Rattle.std.specs.Prelude.{◌≡◌, ℕ, ◌+◌, ◌<◌, ◌≤◌, ◌↔◌, Contains, IsTrue, map, slice_index, IfOk, OnOk, OnErr, IsOk, IsErr, IsSome, None, [], true, false};
+ghost use Rattle.std.specs.Prelude.{◌≡◌, ℕ, ◌+◌, ◌<◌, ◌≤◌, ◌↔◌, Contains, IsTrue, map, IfOk, OnOk, OnErr, IsOk, IsErr, IsSome, None, [], true, false};
 ghost use Rattle.gv_gpu.specs.Device.{IsEmpty, counted, added, released, poked, with_global, with_general, with_spare, with_faults};
 ghost use Rattle.gv_gpu.specs.Context.{submitted, stopped};
 ghost use Rattle.gv_gpu.specs.Step.{physical_step};
