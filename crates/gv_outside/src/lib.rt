@@ -1,5 +1,5 @@
-//! Where bytes come from and where they go: the traits `Source` and `Sink`, the forms of both over
-//! memory and over std's readers and writers, and reading and writing as a whole.
+//! Where bytes come from and where they go: the traits `Source` and `Sink`, and the forms of both over
+//! memory and over std's readers and writers.
 #![tactic(auto)]
 
 mod attempt;
@@ -9,7 +9,6 @@ mod sink;
 mod source;
 mod std_sink;
 mod std_source;
-mod whole;
 
 pub use memory_sink::MemorySink;
 pub use memory_source::MemorySource;
@@ -17,7 +16,6 @@ pub use sink::{Sink, SinkFailed};
 pub use source::{Source, SourceFailed};
 pub use std_sink::StdSink;
 pub use std_source::StdSource;
-pub use whole::{ReadFailed, read_up_to, write_all};
 
 #[cfg(test)]
 mod tests;

@@ -1,7 +1,4 @@
-use crate::{
-    MemorySink, MemorySource, ReadFailed, Sink, SinkFailed, Source, SourceFailed, StdSink,
-    StdSource, read_up_to, write_all,
-};
+use crate::{MemorySink, MemorySource, Sink, SinkFailed, Source, SourceFailed, StdSink, StdSource};
 use std::alloc::Global;
 use std::io;
 use std::io::{Error, ErrorKind, Read, Write};
@@ -39,48 +36,6 @@ fn a_memory_sink_takes_pieces(rt: HostRuntime) -> Result<(), Fail> {
     assert_eq!(rt; sink.write(b"fg"), Err(SinkFailed));
     assert_eq!(rt; sink.write(b""), Ok(0));
     assert_eq!(rt; sink.bytes(), b"abcde".as_slice());
-    Ok(())
-}
-
-#[test]
-fn a_source_is_read_up_to_a_limit(rt: HostRuntime) -> Result<(), Fail> {
-    let alloc = rt.alloc();
-    let bytes = b"abcdefgh".to_vec(alloc)?;
-    let mut source = MemorySource::new(bytes, 3, Vec::new(alloc));
-    let Ok(front) = read_up_to(alloc, &mut source, 5) else {
-        return Err(Fail::from("no front"));
-    };
-    assert_eq!(rt; front.as_slice(), b"abcde".as_slice());
-    let Ok(rest) = read_up_to(alloc, &mut source, 100_000) else {
-        return Err(Fail::from("no rest"));
-    };
-    assert_eq!(rt; rest.as_slice(), b"fgh".as_slice());
-    Ok(())
-}
-
-#[test]
-fn a_source_that_fails_gives_no_text(rt: HostRuntime) -> Result<(), Fail> {
-    let alloc = rt.alloc();
-    let bytes = b"abcdefgh".to_vec(alloc)?;
-    let mut source = MemorySource::new(bytes, 3, failing(alloc, 2)?);
-    let Err(why) = read_up_to(alloc, &mut source, 5) else {
-        return Err(Fail::from("a text in place of the fault"));
-    };
-    assert_eq!(rt; why, ReadFailed::Source);
-    Ok(())
-}
-
-#[test]
-fn a_text_is_written_in_pieces(rt: HostRuntime) -> Result<(), Fail> {
-    let alloc = rt.alloc();
-    for (call, answer, held) in [
-        (9, Ok(()), b"abcdefgh".as_slice()),
-        (2, Err(SinkFailed), b"abc".as_slice()),
-    ] {
-        let mut sink = MemorySink::new(alloc, 8, 3, failing(alloc, call)?)?;
-        assert_eq!(rt; write_all(&mut sink, b"abcdefgh"), answer);
-        assert_eq!(rt; sink.bytes(), held);
-    }
     Ok(())
 }
 

@@ -21,7 +21,7 @@ mod values;
 pub use ending::Ending;
 pub use guest_lines::lines_name_their_guest;
 pub use known::Known;
-pub use lines::{LONGEST_LINE, line_end, next_line};
+pub use lines::{LONGEST_LINE, line_end};
 pub use parse::line;
 pub use printed::Printed;
 pub use printing::print;

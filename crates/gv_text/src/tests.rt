@@ -1,7 +1,7 @@
 ghost use Rattle.std.specs.Prelude.{◌<◌};
 ghost use Rattle.gv_text.specs.Report.{IsPrintable};
 
-use crate::{BadLine, Guest, Known, Line, ReportLine, Values, line, next_line, print};
+use crate::{BadLine, Guest, Known, Line, ReportLine, Values, line, print};
 use gv_balloon::Given;
 use gv_types::{EngineId, GuestId, Place, Reason, Width};
 use std::process::Abort;
@@ -376,31 +376,6 @@ fn lines_in_their_order(rt: HostRuntime) {
     assert_eq!(rt; known_after(&guest, b"reset 1"), None);
     assert_eq!(rt; known_after(&guest, b"a4 1 0"), None);
     assert_eq!(rt; known_after(&begun, b"guest 1 0 0"), None);
-}
-
-fn assert_next(rt: &impl Abort, rest: &[u8], whole: bool, expected: Option<(&[u8], &[u8])>) {
-    assert_eq!(rt; next_line(rest, whole), expected);
-}
-
-#[test]
-fn lines_one_after_another(rt: HostRuntime) {
-    assert_next(&rt, b"end\nr4 0 0\n#", true, Some((b"end", b"r4 0 0\n#")));
-    assert_next(&rt, b"r4 0 0\n#", true, Some((b"r4 0 0", b"#")));
-    assert_next(&rt, b"#", true, Some((b"#", b"")));
-    assert_next(&rt, b"", true, None);
-    assert_next(&rt, b"end\n", true, Some((b"end", b"")));
-    assert_next(&rt, b"\n\n", true, Some((b"", b"\n")));
-    assert_next(&rt, b"\r\n", true, Some((b"\r", b"")));
-}
-
-#[test]
-fn a_line_that_may_go_on(rt: HostRuntime) {
-    let long = [b'#'; 257];
-    assert_next(&rt, b"", false, None);
-    assert_next(&rt, b"end", false, None);
-    assert_next(&rt, b"end\nr4", false, Some((b"end", b"r4")));
-    assert_next(&rt, &long[..256], false, None);
-    assert_next(&rt, &long, false, Some((&long, b"")));
 }
 
 fn access(guest: u8, place: Place, width: Width, at: u64, value: u64) -> ReportLine

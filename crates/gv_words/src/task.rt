@@ -5,6 +5,8 @@ ghost use Rattle.gv_words.specs.Task.{number_rule, program_app, command_app, is_
 use clap::error::ErrorKind;
 use clap::{Arg, ArgMatches, Command, value_parser};
 use std::alloc::{AllocError, Global};
+use std::error::Error;
+use std::fmt;
 
 /// What the program is to do.
 #[derive(Clone, Copy, Debug, PartialEq, Eq)]
@@ -21,6 +23,17 @@ pub enum WordsRefused {
     OutOfMemory,
     BadWords,
 }
+
+impl fmt::Display for WordsRefused {
+    fn fmt<W: fmt::Write>(&self, f: &mut fmt::Formatter<W>) -> fmt::Result {
+        match self {
+            WordsRefused::OutOfMemory => write!(f, "out of memory"),
+            WordsRefused::BadWords => write!(f, "the words are no command"),
+        }
+    }
+}
+
+impl Error for WordsRefused {}
 
 /// The task that the program's arguments name, without its own name. A request for help or for the
 /// version is no task.
