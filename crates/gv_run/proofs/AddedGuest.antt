@@ -1,5 +1,5 @@
 -- One more guest, with the next ranges of the global table.
-use Rattle.std.proofs.Common.{◌≡◌, ◌≢◌, ℕ, ◌+◌, ◌<◌, ◌≤◌, Bool, true, false, zero-add, List, [], ◌∷◌, ◌++◌, All, length, get_or, ap, sym, ◌∙◌, ⊎_elim, subst, arith, refl}
+use Rattle.std.proofs.Common.{◌≡◌, ◌≢◌, ℕ, ◌+◌, ◌<◌, Bool, true, false, zero-add, List, [], ◌∷◌, ◌++◌, All, length, get_or, ap, sym, ◌∙◌, ⊎_elim, subst, arith, refl}
 use Rattle.std.specs.List.{sum_by}
 use Rattle.std.proofs.lemmas.List.{same_lists, length-map, get_or-map, get_or_default, map_push}
 use Rattle.std.proofs.lemmas.List.Elements.{All-push}

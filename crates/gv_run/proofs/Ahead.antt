@@ -1,19 +1,19 @@
 -- The script that is still to come, by what a reader hands out next.
-use Rattle.std.proofs.Common.{◌≡◌, ℕ, ◌+◌, ◌-◌, ◌<◌, ◌≤◌, Bool, true, false, List, [], ◌∷◌, ◌++◌, Option, None, Some, length, get_or, refl, ap, sym, ◌∙◌, arith, subst, if◌then◌else◌, nat_lt, ⊎_elim}
+use Rattle.std.proofs.Common.{◌≡◌, ℕ, ◌+◌, ◌<◌, ◌≤◌, Bool, true, false, List, [], ◌∷◌, ◌++◌, Option, None, Some, length, get_or, refl, ap, sym, ◌∙◌, arith, subst, if◌then◌else◌, ⊎_elim}
 use Rattle.std.specs.List.{slice_split, All}
 use Rattle.std.proofs.lemmas.List.Folds.{list_any_at}
 use Rattle.std.proofs.lemmas.Bool.{cases_lt, lt-ltb}
 use Rattle.std.proofs.lemmas.List.Splits.{slice_split_at, length-slice_split}
 use Rattle.gv_text.specs.Grammar.{line_of, line_of_words, words_of, says_nothing}
 use Rattle.gv_text.specs.Number.{◌>>=◌, check}
-use Rattle.gv_text.specs.Script.{Script, script_of, script_in, script_limit, script_from, script_on, ends, nothing_known, accepted, accepts, is_line_feed, lines_of, lines_of_parts}
+use Rattle.gv_text.specs.Script.{Script, script_of, script_limit, script_from, script_on, ends, nothing_known, accepted, accepts, is_line_feed, lines_of, lines_of_parts}
 use Rattle.gv_text.specs.declared.ending.Ending.{Ending}
 use Rattle.gv_text.specs.declared.ending.Ending.TheVariants.{BadScript, TooLong}
 use Rattle.gv_text.specs.declared.known.Known.{Known}
 use Rattle.gv_text.specs.declared.script_line.Line.{Line}
 use Rattle.gv_text.specs.declared.script_line.Line.TheVariants.{Blank}
 use Rattle.gv_text.proofs.LineParts.{lines_of_parts-more}
-use Rattle.gv_lines.specs.Coming.{Coming, coming_in, onto_coming, nothing_coming, script_coming}
+use Rattle.gv_lines.specs.Coming.{Coming, coming_in, onto_coming, script_coming}
 use Rattle.gv_lines.specs.Reader.{ReaderState, Relates, TellsNext, BeginsLong, coming, has_line_feed, new_reader, room_of}
 use Rattle.gv_lines.specs.declared.next.Next.{Next}
 use Rattle.gv_lines.specs.declared.next.Next.TheVariants as nexts

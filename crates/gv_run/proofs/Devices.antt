@@ -1,12 +1,11 @@
 -- What one device's course keeps, whom its replies name, and what it runs.
-use Rattle.std.proofs.Common.{◌≡◌, ℕ, zero, suc, ◌<◌, List, [], ◌∷◌, ◌++◌, replicate, refl, ap, ◌∙◌, arith}
+use Rattle.std.proofs.Common.{◌≡◌, ℕ, zero, suc, List, [], ◌∷◌, ◌++◌, replicate, refl, ap, ◌∙◌, arith}
 use Rattle.std.specs.List.{AllByRecursion, flat_map}
 use Rattle.gv_types.specs.declared.event.Event.{Event}
-use Rattle.gv_types.specs.declared.event.Event.TheVariants.{Read, Write, Turn, Reset}
+use Rattle.gv_types.specs.declared.event.Event.TheVariants.{Write, Turn}
 use Rattle.gv_types.specs.declared.event.Place.TheVariants.{Registers}
 use Rattle.gv_types.specs.declared.event.Width.{Width}
 use Rattle.gv_types.specs.declared.ids.EngineId.{EngineId}
-use Rattle.gv_types.specs.declared.ranges.Ranges.{Ranges}
 use Rattle.gv_gpu.specs.Device.{JournalEntry}
 use Rattle.gv_vgpu.specs.Device.{PrivateDevice, range_written}
 use Rattle.gv_vgpu.specs.Step.{answer, guest_of}

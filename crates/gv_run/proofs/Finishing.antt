@@ -6,13 +6,13 @@ use Rattle.std.proofs.lemmas.List.{take-append-drop}
 use Rattle.gv_text.specs.Report.{text_of}
 use Rattle.gv_text.specs.Script.{script_of}
 use Rattle.gv_text.specs.declared.ending.Ending.{Ending}
-use Rattle.gv_gpu.specs.Change.{Ran, RanPart}
+use Rattle.gv_gpu.specs.Change.{Ran}
 use Rattle.gv_gpu.specs.Device.{Device, JournalEntry}
 use Rattle.gv_lines.specs.Writer.{PassesOn}
 use Rattle.gv_lines.proofs.Passing.{PassesOn-more}
 use Rattle.gv_vgpu.specs.declared.vgpu.Vgpu.{Vgpu}
 use Rattle.gv_run.specs.Machine.{Machine}
-use Rattle.gv_run.specs.Report.{said_all, ending_said, course_of, report_of, commands_in, machine_of}
+use Rattle.gv_run.specs.Report.{said_all, ending_said, course_of, report_of, commands_in}
 use Rattle.gv_run.specs.Streamed.{WritesFront, Begun, RunsLines, Finishes}
 use Rattle.gv_run.specs.Tied.{Keeps, Ties, first_owner, machine_in}
 use Rattle.gv_run.proofs.Kept.{keeps-ties}

@@ -13,13 +13,13 @@ use Rattle.gv_text.proofs.ReportLines.{lines_of_guest-text_of}
 use Rattle.gv_vgpu.specs.Device.{PrivateDevice, new_device}
 use Rattle.gv_run.specs.Course.{Course, play}
 use Rattle.gv_run.specs.Headline.{IsPrivate}
-use Rattle.gv_run.specs.Machine.{Machine, Input, Done, device_at, whose, device_course, input_course, inputs_in, ran_in, ran_all}
+use Rattle.gv_run.specs.Machine.{Machine, Input, Done, device_at, whose, device_course, input_course, inputs_in, ran_all}
 use Rattle.gv_run.specs.Report.{said_all, memory_said, ending_said, course_of, script_said, report_of, commands_in}
 use Rattle.gv_run.specs.Solo.{solo, guests_of, frames_of, ranges_of, inputs_of, is_done}
 use Rattle.gv_run.proofs.Devices.{NamesOwner, input-quiet}
 use Rattle.gv_run.proofs.Joined.{devices_from, length-devices_from, device-from, length-played, lines-joined}
 use Rattle.gv_run.proofs.Named.{NamesBelow, IsRun, run-script_of, run-small, run-named, named-more}
-use Rattle.gv_run.proofs.OwnCourse.{IsNumbered, own, mine, own-course, all-named}
+use Rattle.gv_run.proofs.OwnCourse.{IsNumbered, mine, own-course, all-named}
 use Rattle.gv_run.proofs.OwnLines.{said-spoken, ending-spoken}
 use Rattle.gv_run.proofs.Printable.{Printable, printable-append, inputs-printable, ending-printable}
 

@@ -1,10 +1,9 @@
 -- What is left of a script, line by line.
-use Rattle.std.proofs.Common.{◌≡◌, ℕ, ◌+◌, Bool, true, false, List, [], ◌∷◌, ◌++◌, Option, None, Some, cond, refl, ap, sym, ◌∙◌, subst}
+use Rattle.std.proofs.Common.{◌≡◌, ℕ, Bool, true, false, List, [], ◌++◌, Option, None, Some, cond, refl, ap, sym, ◌∙◌, subst}
 use Rattle.std.proofs.lemmas.List.{append_assoc, append-nil}
 use Rattle.std.proofs.lemmas.Grind.{flat_map-append}
 use Rattle.gv_text.specs.Report.{text_of}
-use Rattle.gv_text.specs.Script.{Script, script_from, script_on, ends, onto_script, lines_of, counts_last, missing, accepted, known_after, is_end}
-use Rattle.gv_text.specs.declared.ending.Ending.{Ending}
+use Rattle.gv_text.specs.Script.{Script, script_from, script_on, ends, onto_script, lines_of, counts_last, accepted, known_after, is_end}
 use Rattle.gv_text.specs.declared.ending.Ending.TheVariants.{Done, BadScript}
 use Rattle.gv_text.specs.declared.known.Known.{Known}
 use Rattle.gv_text.specs.declared.script_line.Line.{Line}

@@ -1,5 +1,5 @@
 -- What one guest's call changes, seen by all.
-use Rattle.std.proofs.Common.{◌≡◌, ◌≢◌, ℕ, ◌<◌, ◌≤◌, Bool, true, false, not, ◌&&◌, eqb, cond, Option, None, Some, List, All, length, get_or, set, map, ap, sym, ◌∙◌, ⊎_elim, subst, arith, refl}
+use Rattle.std.proofs.Common.{◌≡◌, ◌≢◌, ℕ, ◌<◌, ◌≤◌, Bool, true, false, cond, Option, None, Some, List, All, length, get_or, set, map, ap, sym, ◌∙◌, ⊎_elim, subst, arith, refl}
 use Rattle.std.proofs.lemmas.List.{same_lists, length-map, length-set, get_or-map, get_or-set_same, get_or-set_other, get_or_default, set-get_or, map-set}
 use Rattle.std.proofs.lemmas.Bool.{cases_eq}
 use Rattle.std.proofs.lemmas.Bool.Decides.{nat_tests}

@@ -1,5 +1,5 @@
 -- A script that is run while it is read: what was handed out and said so far, and what is left.
-use Rattle.std.proofs.Common.{◌≡◌, ℕ, ◌+◌, ◌-◌, ◌<◌, ◌≤◌, Bool, true, false, List, [], ◌∷◌, ◌++◌, Option, None, Some, IfSome, length, refl, ap, sym, ◌∙◌, arith, subst, append_assoc, append-nil, length-append}
+use Rattle.std.proofs.Common.{◌≡◌, ℕ, ◌+◌, ◌-◌, ◌<◌, ◌≤◌, true, false, List, [], ◌∷◌, ◌++◌, Option, None, Some, IfSome, length, refl, ap, sym, ◌∙◌, arith, subst, append_assoc, append-nil, length-append}
 use Rattle.std.specs.Io.KnownBytes.{Appends, Consumes}
 use Rattle.std.proofs.KnownBytes.{Consumes-nil}
 use Rattle.gv_outside.proofs.Pieces.{Consumes-front}
@@ -11,7 +11,6 @@ use Rattle.gv_text.specs.declared.known.Known.{Known}
 use Rattle.gv_text.specs.declared.script_line.Line.{Line}
 use Rattle.gv_gpu.specs.Change.{Ran, RanPart}
 use Rattle.gv_gpu.specs.Device.{Device, JournalEntry}
-use Rattle.gv_lines.specs.Coming.{Coming}
 use Rattle.gv_lines.specs.Reader.{ReaderState, HandsOut, Relates, TellsNext, coming, new_reader, has_line_feed}
 use Rattle.gv_lines.specs.Writer.{PassesOn}
 use Rattle.gv_lines.specs.declared.next.Next.{Next}
@@ -19,10 +18,9 @@ use Rattle.gv_lines.specs.declared.next.Next.TheVariants as nexts
 use Rattle.gv_lines.proofs.Passing.{PassesOn-none, PassesOn-more, PassesOn-trans}
 use Rattle.gv_lines.proofs.Handing.{HandsOut-trans}
 use Rattle.gv_vgpu.specs.declared.vgpu.Vgpu.{Vgpu}
-use Rattle.gv_run.specs.Course.{Course}
 use Rattle.gv_run.specs.Headline.{TakesAtMost}
-use Rattle.gv_run.specs.Machine.{Machine, Done as Came, line_course, ran_all}
-use Rattle.gv_run.specs.Report.{said_all, course_of, script_said, ending_said, report_of, commands_in}
+use Rattle.gv_run.specs.Machine.{Machine, line_course, ran_all}
+use Rattle.gv_run.specs.Report.{said_all, course_of, ending_said, report_of, commands_in}
 use Rattle.gv_run.specs.Streamed.{WritesFront, StopsAtFault, Begun, RunsLines, ending_at, is_last, report_so_far, ending_so_far}
 use Rattle.gv_run.specs.Tied.{first_owner, machine_in}
 use Rattle.gv_run.proofs.Ahead.{script_ahead, all_ahead, relates-some, ahead-ends, ahead-line, ahead-nothing, lines_of-line}

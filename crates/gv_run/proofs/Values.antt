@@ -1,13 +1,13 @@
 -- One write of a line of writes.
-use Rattle.std.proofs.Common.{◌≡◌, ℕ, ◌+◌, ◌*◌, ◌<◌, List, [], ◌∷◌, length, get_or, drop, ap, ◌∙◌, arith}
+use Rattle.std.proofs.Common.{◌≡◌, ℕ, ◌+◌, ◌*◌, ◌<◌, List, ◌∷◌, length, get_or, drop, ap, ◌∙◌, arith}
 use Rattle.std.proofs.lemmas.List.{at_drop_more}
 use Rattle.gv_types.specs.Memory.{bytes_of}
 use Rattle.gv_types.specs.declared.event.Event.TheVariants.{Write}
 use Rattle.gv_types.specs.declared.event.Place.{Place}
 use Rattle.gv_types.specs.declared.event.Width.{Width}
 use Rattle.gv_types.specs.declared.ids.GuestId.{GuestId}
-use Rattle.gv_run.specs.Course.{Course, onto, play}
-use Rattle.gv_run.specs.Machine.{Machine, Input, Done, event, input_course, writes_of}
+use Rattle.gv_run.specs.Course.{onto, play}
+use Rattle.gv_run.specs.Machine.{Machine, Input, event, input_course, writes_of}
 
 module _ (guest : GuestId) (place : Place) (width : Width) (at : ℕ) (values : List ℕ) (i : ℕ) (h : i < length values) where
   abbrev left : List Input

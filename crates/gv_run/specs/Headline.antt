@@ -9,7 +9,7 @@ use Rattle.gv_gpu.specs.Device.{Device}
 use Rattle.gv_run.specs.Report.{report_of, commands_in}
 use Rattle.gv_run.specs.Solo.{solo, guests_of, frames_of, ranges_of, inputs_of, is_done}
 use Rattle.gv_run.specs.declared.call.Status.{Status}
-use Rattle.gv_run.specs.declared.call.Status.TheVariants.{Done, OutOfMemory, BadWords, ReadFault, WriteFault, BadScript, TooLong, DeviceFault}
+use Rattle.gv_run.specs.declared.call.Status.TheVariants.{Done, OutOfMemory, ReadFault, WriteFault, BadScript, TooLong}
 use Rattle.gv_run.specs.declared.stopped.Stopped.{Stopped}
 use Rattle.gv_run.specs.declared.stopped.Stopped.TheVariants as stops
 use Rattle.gv_words.specs.Task.{is_taken, task_meant}

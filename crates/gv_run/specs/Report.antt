@@ -18,7 +18,6 @@ use Rattle.gv_text.specs.declared.ending.Ending.{Ending}
 use Rattle.gv_text.specs.declared.ending.Ending.TheVariants.{Done as done, BadScript, TooLong}
 use Rattle.gv_text.specs.declared.report_line.ReportLine.{ReportLine}
 use Rattle.gv_text.specs.declared.report_line.ReportLine.TheVariants as said
-use Rattle.gv_text.specs.declared.script_line.Line.{Line}
 use Rattle.gv_run.specs.Course.{Course, play}
 use Rattle.gv_run.specs.Machine.{Machine, Input, event, turns, Happened, Done, line_course, ran_all}
 

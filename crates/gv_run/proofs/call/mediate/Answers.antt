@@ -1,4 +1,3 @@
-use Rattle.std.proofs.Common.{◌≡◌, take, sym, ◌∙◌}
 use Rattle.gv_run.specs.Report.{report_of}
 use Rattle.gv_run.proofs.Isolation.{private-report}
 use Rattle.gv_run.proofs.Journal.{journal-part}

@@ -1,4 +1,4 @@
-use Rattle.std.proofs.Common.{◌≡◌, ◌+◌, ◌++◌, drop, refl, sym, ap, ◌∙◌, subst, arith}
+use Rattle.std.proofs.Common.{◌+◌, ◌++◌, drop, refl, sym, subst, arith}
 use Rattle.gv_guest.specs.Placed.{Placed, memory_in}
 use Rattle.gv_lines.specs.Writer.{PassesOn}
 use Rattle.gv_text.specs.Report.{text_of}

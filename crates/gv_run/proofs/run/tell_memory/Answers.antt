@@ -1,11 +1,11 @@
-use Rattle.std.proofs.Common.{length, arith, ◌<◌, ◌≤◌, ◌*◌, ◌+◌, ◌++◌, ◌∷◌, [], ◌≡◌, drop, refl, subst}
+use Rattle.std.proofs.Common.{length, arith, ◌<◌, ◌≤◌, ◌*◌, ◌+◌, ◌++◌, ◌∷◌, [], drop, refl, subst}
 use Rattle.std.specs.List.{concat}
 use Rattle.std.proofs.lemmas.List.{length-map}
 use Rattle.gv_guest.specs.Placed.{memory_in}
 use Rattle.gv_lines.specs.Writer.{PassesOn}
 use Rattle.gv_text.specs.Report.{text_of}
 use Rattle.gv_run.specs.Report.{words_said, memory_said}
-use Rattle.gv_run.proofs.Saying.{Saying, saying-all, saying-more, saying-part, saying-front, saying-done, passes-part}
+use Rattle.gv_run.proofs.Saying.{saying-all, saying-more, saying-part, saying-front, saying-done, passes-part}
 use Rattle.gv_run.proofs.Words.{whole-stands, words_kept, words_done}
 use Rattle.gv_run.proofs.run.tell_memory.Goals as goal
 

@@ -1,10 +1,9 @@
-use Rattle.std.proofs.Common.{◌≡◌, ◌+◌, ◌≤◌, ◌<◌, ◌++◌, ◌∷◌, [], List, Result, Ok, Err, length, refl, ap, sym, ◌∙◌, subst, arith}
-use Rattle.gv_text.specs.Script.{script_limit, script_limit-is, accepted}
+use Rattle.std.proofs.Common.{◌+◌, [], List, length, refl, ap, sym, ◌∙◌, subst, arith}
+use Rattle.gv_text.specs.Script.{script_limit-is, accepted}
 use Rattle.gv_text.specs.declared.known.Known.{Known}
 use Rattle.gv_lines.specs.Reader.{ReaderState, HandsOut, IsOneLine, bytes_of}
 use Rattle.gv_lines.specs.declared.next.Next.{Next}
 use Rattle.gv_vgpu.specs.declared.vgpu.Vgpu.{Vgpu}
-use Rattle.gv_run.specs.Machine.{Machine}
 use Rattle.gv_run.specs.Tied.{first_owner, machine_in}
 use Rattle.gv_run.proofs.Streaming.{Reading, reading-start, reading-begun, reading-passed, reading-taken, reading-fault, reading-ends, reading-refused, reading-ended, reading-began, reading-last, reading-began_last, reading-more, is_last-true, is_line, fewer-left, number-more}
 use Rattle.gv_run.proofs.script.run_lines.Goals as goal

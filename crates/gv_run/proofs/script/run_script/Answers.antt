@@ -1,4 +1,4 @@
-use Rattle.std.proofs.Common.{ℕ, ap, sym, ◌∙◌}
+use Rattle.std.proofs.Common.{ap, sym, ◌∙◌}
 use Rattle.gv_lines.specs.Reader.{new_reader}
 use Rattle.gv_text.specs.Script.{script_limit-is}
 use Rattle.gv_run.proofs.Finishing.{begun-none, finish-begun, finishes}

@@ -1,4 +1,4 @@
-use Rattle.std.proofs.Common.{[], ◌++◌, sym, subst, ap, ◌∙◌, List}
+use Rattle.std.proofs.Common.{◌++◌, subst, List}
 use Rattle.gv_vgpu.specs.declared.vgpu.Vgpu.{Vgpu}
 use Rattle.gv_lines.specs.Writer.{PassesOn}
 use Rattle.gv_lines.proofs.Passing.{PassesOn-trans}

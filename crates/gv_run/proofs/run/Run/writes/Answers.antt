@@ -1,11 +1,11 @@
-use Rattle.std.proofs.Common.{◌≡◌, ℕ, ◌+◌, ◌*◌, ◌++◌, [], get_or, drop, sym, ap, ◌∙◌, subst, arith}
+use Rattle.std.proofs.Common.{◌≡◌, ℕ, ◌+◌, ◌*◌, ◌++◌, get_or, drop, sym, ap, ◌∙◌, subst, arith}
 use Rattle.std.proofs.lemmas.List.{drop_all}
 use Rattle.gv_types.specs.Memory.{bytes_of}
 use Rattle.gv_types.specs.declared.event.Event.TheVariants.{Write}
 use Rattle.gv_gpu.specs.Change.{Ran}
 use Rattle.gv_text.specs.Report.{text_of}
-use Rattle.gv_run.specs.Course.{Course, onto, play}
-use Rattle.gv_run.specs.Machine.{Machine, Input, Done, event, input_course, writes_of, ran_all}
+use Rattle.gv_run.specs.Course.{Course, play}
+use Rattle.gv_run.specs.Machine.{Machine, Done, event, input_course, writes_of, ran_all}
 use Rattle.gv_run.specs.Report.{said_all}
 use Rattle.gv_run.specs.Tied.{first_owner, machine_in}
 use Rattle.gv_run.proofs.Left.{Left, goes_on, stops_within, ran-whole, over, left-part}
