@@ -99,14 +99,14 @@ module _ (s r : NodeMap) (before : AreNodes s) (after : AreNodes r) where
         (λ h.
         let at = own-page r n after h in
         page-own s at.0 at.1 n (sym (others at.0 at.1 (λ a b.
-          let clash : Some page ≡ Some n = sym here ∙ sym (ap (λ x. pages_in r x at.1) a ∙ ap (pages_in r level) b) ∙ at.2 in
-          let is : n ≡ page = cc in
-          other is)) ∙ at.2))
+        let clash : Some page ≡ Some n = sym here ∙ sym (ap (λ x. pages_in r x at.1) a ∙ ap (pages_in r level) b) ∙ at.2 in
+        let is : n ≡ page = cc in
+        other is)) ∙ at.2))
         (λ h.
         let at = own-page s n before h in
         page-own r at.0 at.1 n (others at.0 at.1 (λ a b.
-          let clash : None ≡ Some n = sym absent ∙ sym (ap (λ x. pages_in s x at.1) a ∙ ap (pages_in s level) b) ∙ at.2 in
-          cc) ∙ at.2))
+        let clash : None ≡ Some n = sym absent ∙ sym (ap (λ x. pages_in s x at.1) a ∙ ap (pages_in s level) b) ∙ at.2 in
+        cc) ∙ at.2))
 
 -- ---- the part of the device
 

@@ -11,8 +11,8 @@ ghost use Rattle.gv_sppgtt.specs.State.{pages_of, parents_of, readings_of, sketc
 ghost use Rattle.gv_sppgtt.specs.Holding.{Holds, Keeps};
 
 use crate::Tables;
-use crate::tables::BLOCK;
 use crate::grow::split_level;
+use crate::tables::BLOCK;
 use gv_gpu::Gpu;
 use gv_guest::{Frames, Pins};
 
@@ -68,7 +68,7 @@ impl Tables {
             unreachable!();
         };
         self.nodes.remove(key);
-        self.touched[frame as usize / BLOCK] = true;
+        self.touched[(frame / BLOCK) as usize] = true;
     }
 
     // Maps nothing by a word of a table of leaves.

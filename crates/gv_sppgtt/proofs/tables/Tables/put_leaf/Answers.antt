@@ -99,9 +99,9 @@ returns-clause-exact g c =
     let old : decode t.owners.items 1 c.word-word.result ≡ reading_at d.words t.owners.items c.args.level (pages_in t.nodes c.args.level c.args.table) c.args.index =
     sym (decode-leaf t.owners.items c.args.level c.word-word.result c.requires.leaves) ∙ ap (decode t.owners.items c.args.level) c.word-word.ensures ∙ sym (ap (λ o. reading_at d.words t.owners.items c.args.level o c.args.index) c.requires.node) in
     rw (c.poke.ensures, put.nodes, took.nodes)
-          (leaf-exact d c.args.frames.now t.nodes t.chains t.owners.items t.told.items c.requires.stands c.requires.sound
-          c.args.table c.args.level c.args.page c.args.index c.enter_leaf-value.result (leaf_entry c.args.leaf) (nothing c.args.leaf) c.requires.leaves n.chains n.owners.items c.requires.node c.requires.within
-          (at_level c.args.frames.now (pages_in t.nodes) (flag t.told.items) c.args.level c.requires.leaves c.args.leaf c.enter_leaf-value.result (rw took.told at (put.named (pages_in t.nodes)))) (decode-leaf n.owners.items c.args.level c.enter_leaf-value.result c.requires.leaves ∙ put.stands_for) (linked_at t.chains m.chains n.chains c.args.page c.args.index (leaf_entry c.args.leaf) took.gone put.linked)
-          (rw took.owners at put.at_frames) (rw took.owners at put.at_others) (put.long ∙ took.long) put.owners
-          c.args.pins.now c.take_leaf.new.pins c.enter_leaf-value.new.pins
-          (λ h. ap (λ e. get_or c.take_leaf.new.pins h 0 + one_if (maps h e)) (sym old) ∙ took.pins h) put.pins)
+    (leaf-exact d c.args.frames.now t.nodes t.chains t.owners.items t.told.items c.requires.stands c.requires.sound
+    c.args.table c.args.level c.args.page c.args.index c.enter_leaf-value.result (leaf_entry c.args.leaf) (nothing c.args.leaf) c.requires.leaves n.chains n.owners.items c.requires.node c.requires.within
+    (at_level c.args.frames.now (pages_in t.nodes) (flag t.told.items) c.args.level c.requires.leaves c.args.leaf c.enter_leaf-value.result (rw took.told at (put.named (pages_in t.nodes)))) (decode-leaf n.owners.items c.args.level c.enter_leaf-value.result c.requires.leaves ∙ put.stands_for) (linked_at t.chains m.chains n.chains c.args.page c.args.index (leaf_entry c.args.leaf) took.gone put.linked)
+    (rw took.owners at put.at_frames) (rw took.owners at put.at_others) (put.long ∙ took.long) put.owners
+    c.args.pins.now c.take_leaf.new.pins c.enter_leaf-value.new.pins
+    (λ h. ap (λ e. get_or c.take_leaf.new.pins h 0 + one_if (maps h e)) (sym old) ∙ took.pins h) put.pins)
