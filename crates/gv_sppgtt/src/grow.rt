@@ -70,7 +70,7 @@ impl Tables {
         ensures touched { Touches frame self.old.touched self.new.touched }
     {
         self.owners[page as usize] = frame;
-        self.touched[frame as usize / BLOCK] = true;
+        self.touched[(frame / BLOCK) as usize] = true;
         let key = self.nodes.insert(frame, level, page);
         self.nodes.add_parent(key);
     }

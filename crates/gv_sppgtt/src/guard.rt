@@ -11,7 +11,14 @@ use gv_guest::{Frames, Pins};
 
 impl Tables {
     // A frame becomes guarded or unguarded: its leaves are writable where the guest's entries have it, unless it is guarded.
-    fn flip<G: Gpu>(&mut self, gpu: &mut G, frames: &Frames, pins: &Pins, frame: u32, guarded: bool)
+    pub(crate) fn flip<G: Gpu>(
+        &mut self,
+        gpu: &mut G,
+        frames: &Frames,
+        pins: &Pins,
+        frame: u32,
+        guarded: bool,
+    )
         requires holds { Holds (G.state gpu.old) frames.now self.old pins.now }
         requires frame { frame < length frames.now.pages }
         ensures holds { Holds (G.state gpu.new) frames.now self.new pins.now }

@@ -1,15 +1,24 @@
 //! Shadow per-process tables, kept incrementally: for each live table of a guest a table of the device's own,
 //! each word of which follows the guest's entry, and for each large page a split table of its frames.
 //!
-//! The crate isn't complete: it has the steps by which shadow tables grow, shrink and follow a changed word,
-//! and the calls for the layer above are still to come.
+//! A word of a node tells by itself what it stands for: each host page has an owner, a frame, and bits 2 and 3,
+//! which the device ignores, keep the guest's own writable bit of a leaf, and whether a table is a split one.
+//!
+//! The contract isn't final: `clear`, the bound on pokes and the law for what other layers do between calls are
+//! still to come.
 #![tactic(auto)]
 
+mod calls;
+mod changed;
 mod grow;
 mod guard;
+mod laws;
 mod relink;
 mod shrink;
 mod tables;
+mod tell;
 mod update;
 
-pub use tables::Tables;
+pub use changed::Changed;
+pub use laws::{serving_tables_are_live, serving_tables_shadow, serving_tables_tell};
+pub use tables::{TableFault, Tables};

@@ -68,7 +68,7 @@ impl Tables {
             unreachable!();
         };
         self.nodes.remove(key);
-        self.touched[frame as usize / BLOCK] = true;
+        self.touched[(frame / BLOCK) as usize] = true;
     }
 
     // Maps nothing by a word of a table of leaves.

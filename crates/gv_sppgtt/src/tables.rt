@@ -15,6 +15,7 @@ use gv_guest::{Frames, Pins};
 use gv_nodes::Nodes;
 use gv_rmap::{Chains, Leaf};
 use gv_types::{GuestId, OutOfMemory};
+use std::alloc::Global;
 
 /// Why a table can't be kept.
 #[derive(Debug, Drop)]
@@ -55,6 +56,7 @@ pub enum Word {
 /// The shadow tables of a guest.
 #[derive(Drop)]
 pub struct Tables {
+    pub(crate) alloc: Global,
     pub(crate) guest: GuestId,
     pub(crate) nodes: Nodes,
     pub(crate) chains: Chains,
@@ -67,7 +69,7 @@ pub struct Tables {
 }
 
 /// Frames are told of in blocks of so many.
-pub(crate) const BLOCK: usize = 128;
+pub(crate) const BLOCK: u32 = 128;
 
 pub(crate) const BLOCKS: usize = 128;
 

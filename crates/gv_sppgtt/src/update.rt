@@ -17,7 +17,7 @@ use gv_types::OutOfMemory;
 
 impl Tables {
     // The page of the node of a frame at a level, if there is one.
-    fn page_at(&self, frame: u32, level: u8) -> Option<u64>
+    pub(crate) fn page_at(&self, frame: u32, level: u8) -> Option<u64>
         requires frame { frame < self.now.nodes.frames }
         requires low { 1 ≤ level }
         requires high { level ≤ 4 }
@@ -116,7 +116,7 @@ impl Tables {
 
     // After a word of a frame was changed: makes it as the guest's at each level at which the frame is a table,
     // the highest first.
-    fn update<G: Gpu>(
+    pub(crate) fn update<G: Gpu>(
         &mut self,
         gpu: &mut G,
         frames: &Frames,

@@ -1,0 +1,78 @@
+use Rattle.std.proofs.Common.{Result, Err, ℕ, ◌≡◌, ◌≤◌, List, length, refl, sym, ap, ◌∙◌}
+use Rattle.gv_guest.specs.Placed.{memory_in}
+use Rattle.gv_entry.specs.Tables.{has_bad_entry}
+use Rattle.gv_sppgtt.specs.Grown.{Rests}
+use Rattle.gv_sppgtt.specs.State.{sketch_of}
+use Rattle.gv_sppgtt.specs.Serving.{roots_of}
+use Rattle.gv_sppgtt.specs.declared.tables.TableFault.{TableFault}
+use Rattle.gv_sppgtt.specs.declared.tables.TableFault.TheVariants.{BadEntry}
+use Rattle.gv_sppgtt.specs.declared.changed.Changed.{Changed}
+use Rattle.gv_sppgtt.proofs.Serving.{roots-self}
+use Rattle.gv_sppgtt.proofs.Served.{rests-word, done-serves, done-roots, done-tells, done-good}
+use Rattle.gv_sppgtt.proofs.tables.Tables.follow.Goals as goal
+
+same_fault : (x y : TableFault) → ◌≡◌ {A = Result Changed TableFault} (Err x) (Err y) → x ≡ y
+same_fault x y e = cc
+
+pub update-requires-clause-rests : goal.update-requires-clause-rests
+update-requires-clause-rests g c = (roots_of c.args.self.now, rests-word c.args.frames.now (g.G.Gpu.state c.args.gpu.now) c.args.self.now c.args.pins.now c.requires.serves.0 c.args.frame c.args.index c.requires.serves.1.0 c.requires.serves.1.1)
+
+pub returns-in-Err-clause-bad : goal.returns-in-Err-clause-bad
+returns-in-Err-clause-bad g c is = c.in-Err.ensures.bad (ap (λ e. Err e) (same_fault c.in-Err.fault BadEntry is)) (roots_of c.args.self.now) (rests-word c.args.frames.now (g.G.Gpu.state c.args.gpu.now) c.args.self.now c.args.pins.now c.requires.serves.0 c.args.frame c.args.index c.requires.serves.1.0 c.requires.serves.1.1)
+
+pub returns-clause-serves : goal.returns-clause-serves
+returns-clause-serves g c =
+    let d = g.G.Gpu.state c.args.gpu.now in
+    let e = g.G.Gpu.state c.update.new.gpu in
+    let f = g.G.Gpu.state c.tell.new.gpu in
+    let placed = c.args.frames.now in
+    let t = c.args.self.now in
+    let u = c.update.new.self in
+    let v = c.tell.new.self in
+    let p = c.in_ok-changed.ensures in
+    let a = c.in_default.ensures in
+    done-serves placed d e f t u (record v { touched = u.touched }) v c.args.pins.now c.update.new.pins (roots_of t) c.in_ok-changed.changed.guarded.items c.in_ok-changed.changed.unguarded.items c.args.frame c.args.index
+    a.keeps a.holds (a.settled (roots_of t) (rests-word c.args.frames.now (g.G.Gpu.state c.args.gpu.now) c.args.self.now c.args.pins.now c.requires.serves.0 c.args.frame c.args.index c.requires.serves.1.0 c.requires.serves.1.1)) p.telling p.holds refl refl refl p.untouched
+
+pub returns-clause-roots : goal.returns-clause-roots
+returns-clause-roots g c =
+    let d = g.G.Gpu.state c.args.gpu.now in
+    let e = g.G.Gpu.state c.update.new.gpu in
+    let f = g.G.Gpu.state c.tell.new.gpu in
+    let placed = c.args.frames.now in
+    let t = c.args.self.now in
+    let u = c.update.new.self in
+    let v = c.tell.new.self in
+    let p = c.in_ok-changed.ensures in
+    let a = c.in_default.ensures in
+    done-roots placed d e f t u (record v { touched = u.touched }) v c.args.pins.now c.update.new.pins (roots_of t) c.in_ok-changed.changed.guarded.items c.in_ok-changed.changed.unguarded.items c.args.frame c.args.index
+    a.keeps a.holds (a.settled (roots_of t) (rests-word c.args.frames.now (g.G.Gpu.state c.args.gpu.now) c.args.self.now c.args.pins.now c.requires.serves.0 c.args.frame c.args.index c.requires.serves.1.0 c.requires.serves.1.1)) p.telling p.holds refl refl refl p.untouched
+    ∙ roots-self d placed t c.args.pins.now c.requires.serves.1.0.holds
+
+pub returns-clause-changed : goal.returns-clause-changed
+returns-clause-changed g c =
+    let d = g.G.Gpu.state c.args.gpu.now in
+    let e = g.G.Gpu.state c.update.new.gpu in
+    let f = g.G.Gpu.state c.tell.new.gpu in
+    let placed = c.args.frames.now in
+    let t = c.args.self.now in
+    let u = c.update.new.self in
+    let v = c.tell.new.self in
+    let p = c.in_ok-changed.ensures in
+    let a = c.in_default.ensures in
+    done-tells placed d e f t u (record v { touched = u.touched }) v c.args.pins.now c.update.new.pins (roots_of t) c.in_ok-changed.changed.guarded.items c.in_ok-changed.changed.unguarded.items c.args.frame c.args.index
+    a.keeps a.holds (a.settled (roots_of t) (rests-word c.args.frames.now (g.G.Gpu.state c.args.gpu.now) c.args.self.now c.args.pins.now c.requires.serves.0 c.args.frame c.args.index c.requires.serves.1.0 c.requires.serves.1.1)) p.telling p.holds refl refl refl p.untouched
+
+pub returns-clause-good : goal.returns-clause-good
+returns-clause-good g c =
+    let d = g.G.Gpu.state c.args.gpu.now in
+    let e = g.G.Gpu.state c.update.new.gpu in
+    let f = g.G.Gpu.state c.tell.new.gpu in
+    let placed = c.args.frames.now in
+    let t = c.args.self.now in
+    let u = c.update.new.self in
+    let v = c.tell.new.self in
+    let p = c.in_ok-changed.ensures in
+    let a = c.in_default.ensures in
+    ap (has_bad_entry (memory_in d placed)) (sym (returns-clause-roots g c)) ∙ done-good placed d e f t u (record v { touched = u.touched }) v c.args.pins.now c.update.new.pins (roots_of t) c.in_ok-changed.changed.guarded.items c.in_ok-changed.changed.unguarded.items c.args.frame c.args.index
+    a.keeps a.holds (a.settled (roots_of t) (rests-word c.args.frames.now (g.G.Gpu.state c.args.gpu.now) c.args.self.now c.args.pins.now c.requires.serves.0 c.args.frame c.args.index c.requires.serves.1.0 c.requires.serves.1.1)) p.telling p.holds refl refl refl p.untouched
