@@ -16,6 +16,8 @@ use gv_nodes::Nodes;
 use gv_rmap::{Chains, Leaf};
 use gv_types::{GuestId, OutOfMemory};
 use std::alloc::Global;
+use std::error::Error;
+use std::fmt;
 
 /// Why a table can't be kept.
 #[derive(Debug, Drop)]
@@ -23,6 +25,17 @@ pub enum TableFault {
     OutOfMemory,
     BadEntry,
 }
+
+impl fmt::Display for TableFault {
+    fn fmt<W: fmt::Write>(&self, f: &mut fmt::Formatter<W>) -> fmt::Result {
+        match self {
+            TableFault::OutOfMemory => write!(f, "out of memory"),
+            TableFault::BadEntry => write!(f, "a live table has a bad entry"),
+        }
+    }
+}
+
+impl Error for TableFault {}
 
 impl From<OutOfMemory> for TableFault {
     ghost use Rattle.std.specs.Prelude.{◌≡◌};
