@@ -98,7 +98,7 @@ module _ (guarded : List Bool) where
   other-grant frame flag (Some k) differ = ap (λ b. cond b None (Some k)) (get_or-set_other guarded frame k flag false (λ same. differ (ap (λ n. Some n) same)))
 
 -- the count of none
-pub none-counted : (test : ℕ → Bool) (n : ℕ) → test 0 ≡ false → count_by test (replicate n 0) ≡ 0
+none-counted : (test : ℕ → Bool) (n : ℕ) → test 0 ≡ false → count_by test (replicate n 0) ≡ 0
 none-counted test zero fails = refl
 none-counted test (suc n) fails = sum_by-cons (λ x. cond (test x) 1 0) 0 (replicate n 0) ∙ ap (λ b. cond b 1 0 + count_by test (replicate n 0)) fails ∙ (let rest = none-counted test n fails in omega arith)
 
@@ -153,15 +153,15 @@ module _ (t : Table) (frame : ℕ) (flag : Bool) (within : frame < length t.guar
         changes_at (get_or before frame 0 + count) (omega arith)
 
 -- a table whose entries are 0 has none
+pub zero-pins : (t : Table) (n : ℕ) → t.entries ≡ replicate n 0 → (frame : ℕ) → table_pins t frame ≡ 0
+zero-pins t n is frame = ap (λ entries. count_by (λ entry. is_frame frame (entry_grant t entry)) entries) is ∙ none-counted (λ entry. is_frame frame (entry_grant t entry)) n refl
+
 pub has-pins-zero : (ranges : Ranges) (frames : ℕ) → HasPins (zero_table ranges frames) (replicate frames 0)
 has-pins-zero ranges frames = record {
   frames = length-replicate frames 0;
-  own = λ k h. let n = none k in omega arith;
-  others = λ k h. let n = none k in let z = zero k in omega arith;
+  own = λ k h. let n = zero-pins (zero_table ranges frames) (pages_of ranges) refl k in omega arith;
+  others = λ k h. let n = zero-pins (zero_table ranges frames) (pages_of ranges) refl k in let z = zero k in omega arith;
 }
   where
-    none : (k : ℕ) → table_pins (zero_table ranges frames) k ≡ 0
-    none k = none-counted (λ entry. is_frame k (entry_grant (zero_table ranges frames) entry)) (pages_of ranges) refl
-
     zero : (k : ℕ) → ◌≡◌ {A = ℕ} (get_or (replicate frames 0) k 0) 0
     zero k = grind (arith, common_steps)

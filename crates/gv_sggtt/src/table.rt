@@ -8,7 +8,7 @@ ghost use Rattle.gv_gpu.specs.Part.{entries_part};
 ghost use Rattle.gv_guest.specs.Placed.{Hosts, KeepsMemory};
 ghost use Rattle.gv_sggtt.specs.Linked.{is_frame, names};
 ghost use Rattle.gv_sggtt.specs.Mirror.{Mirrors, NamesFrame, SetsEntries};
-ghost use Rattle.gv_sggtt.specs.Pins.{HasPins, ChangesOwnPins, PinsGranted};
+ghost use Rattle.gv_sggtt.specs.Pins.{table_pins, HasPins, ChangesOwnPins, PinsGranted};
 ghost use Rattle.gv_sggtt.specs.Table.{zero_table, table_entry, table_written, table_grant, table_guarding, guards};
 
 use crate::linked::{LinkedEntries, slot_of_leaf};
@@ -325,6 +325,7 @@ impl GlobalTable {
         ensures mirrors { Mirrors (G.state gpu.new) self.new memory.old.frames }
         ensures pins { ChangesOwnPins self.old self.new memory.old.pins memory.new.pins }
         ensures pinned { HasPins self.new memory.new.pins }
+        ensures unpinned { (frame : ℕ) → table_pins self.new frame ≡ 0 }
         ensures memory { KeepsMemory memory.old.frames (G.state gpu.old) (G.state gpu.new) }
         ensures changes { ChangesOnly (entries_part self.old.ranges) 0 (G.state gpu.old) (G.state gpu.new) }
     {

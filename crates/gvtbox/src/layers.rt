@@ -3,7 +3,6 @@ ghost use Rattle.std.specs.Prelude.{◌≡◌, IfOk, length};
 ghost use Rattle.gv_guest.specs.Placed.{Hosts};
 ghost use Rattle.gv_sggtt.specs.Mirror.{Mirrors};
 ghost use Rattle.gv_sggtt.specs.Pins.{HasPins};
-ghost use Rattle.gv_sggtt.specs.Table.{zero_table};
 
 use gv_engine::SoftGpu;
 use gv_gpu::Gpu;
@@ -27,17 +26,18 @@ fn guest(alloc: Global) -> Result<(SoftGpu, Memory, GlobalTable), OutOfMemory>
     ensures frames { IfOk result (λ made. length made.1.frames.pages ≡ made.2.frames) }
     ensures mirrors { IfOk result (λ made. Mirrors (⟦<SoftGpu as Gpu>⟧.state made.0) made.2 made.1.frames) }
     ensures pinned { IfOk result (λ made. HasPins made.2 made.1.pins) }
-    ensures table { IfOk result (λ made. made.2 ≡ zero_table RANGES 2) }
+    ensures guarded { IfOk result (λ made. made.2.guarded ≡ replicate made.2.frames false) }
+    ensures known { IfOk result (λ made. made.2.frames ≡ frames) }
 {
     let mut gpu = SoftGpu::new(alloc);
-    let memory = Memory::new(alloc, &mut gpu, GuestId(0), 2)?;
-    let table = GlobalTable::new(alloc, RANGES, 2)?;
+    let memory = Memory::new(alloc, &mut gpu, GuestId(0), frames)?;
+    let table = GlobalTable::new(alloc, ranges, frames)?;
     Ok((gpu, memory, table))
 }
 
 #[test]
 fn entries_of_two_ranges(rt: HostRuntime) -> Result<(), Fail> {
-    let (mut gpu, mut memory, mut table) = guest(rt.alloc())?;
+    let (mut gpu, mut memory, mut table) = guest(rt.alloc(), RANGES, 2)?;
     table.write_entry(&mut gpu, &mut memory, 3, 0x1001);
     table.write_entry(&mut gpu, &mut memory, 5, 0x1001);
     table.write_entry(&mut gpu, &mut memory, 65_536, 0x2001);
@@ -60,7 +60,7 @@ fn entries_of_two_ranges(rt: HostRuntime) -> Result<(), Fail> {
 // gives them back with it.
 #[test]
 fn a_frame_is_guarded(rt: HostRuntime) -> Result<(), Fail> {
-    let (mut gpu, mut memory, mut table) = guest(rt.alloc())?;
+    let (mut gpu, mut memory, mut table) = guest(rt.alloc(), RANGES, 2)?;
     table.write_entry(&mut gpu, &mut memory, 4, 0x1001);
     table.write_entry(&mut gpu, &mut memory, 5, 0x1003);
     table.write_entry(&mut gpu, &mut memory, 5, 0x1001);
@@ -79,6 +79,61 @@ fn a_frame_is_guarded(rt: HostRuntime) -> Result<(), Fail> {
     table.clear(&mut gpu, &mut memory);
     assert_eq!(rt; memory.pins(1), 0);
     assert_eq!(rt; table.granted(5), None);
+    Ok(())
+}
+
+// Writes the entries of so many pages, for the frames in turn.
+fn write_all<G: Gpu>(gpu: &mut G, memory: &mut Memory, table: &mut GlobalTable, pages: u32)
+    requires stands { Hosts (G.state gpu.old) memory.old.frames }
+    requires frames { length memory.old.frames.pages ≡ table.old.frames }
+    requires mirrors { Mirrors (G.state gpu.old) table.old memory.old.frames }
+    requires pinned { HasPins table.old memory.old.pins }
+    ensures stands { Hosts (G.state gpu.new) memory.new.frames }
+    ensures frames { length memory.new.frames.pages ≡ table.new.frames }
+    ensures mirrors { Mirrors (G.state gpu.new) table.new memory.new.frames }
+    ensures pinned { HasPins table.new memory.new.pins }
+    ensures same { table.new.frames ≡ table.old.frames }
+    ensures guarded { table.new.guarded ≡ table.old.guarded }
+{
+    for page in 0..pages {
+        table.write_entry(gpu, memory, page, u64::from(page % 16_384) * 4096 + 1);
+    }
+}
+
+// Guards each frame, and then no longer.
+fn guard_each<G: Gpu>(gpu: &mut G, memory: &mut Memory, table: &mut GlobalTable, frames: u32)
+    requires stands { Hosts (G.state gpu.old) memory.old.frames }
+    requires frames { length memory.old.frames.pages ≡ table.old.frames }
+    requires mirrors { Mirrors (G.state gpu.old) table.old memory.old.frames }
+    requires pinned { HasPins table.old memory.old.pins }
+    requires all { frames ≤ table.old.frames }
+    requires free { table.old.guarded ≡ replicate table.old.frames false }
+    ensures stands { Hosts (G.state gpu.new) memory.new.frames }
+    ensures frames { length memory.new.frames.pages ≡ table.new.frames }
+    ensures mirrors { Mirrors (G.state gpu.new) table.new memory.new.frames }
+    ensures pinned { HasPins table.new memory.new.pins }
+    ensures same { table.new.frames ≡ table.old.frames }
+{
+    for frame in 0..frames {
+        table.guard(gpu, memory, frame);
+        table.unguard(gpu, memory, frame);
+    }
+}
+
+// This takes a time that grows with the number of entries and frames. Were the range looked through for each
+// frame, it would take some thousand times as long.
+#[test]
+fn many_entries_of_many_frames(rt: HostRuntime) -> Result<(), Fail> {
+    let (mut gpu, mut memory, mut table) = guest(rt.alloc(), WIDE, 16_384)?;
+    write_all(&mut gpu, &mut memory, &mut table, 100_000);
+    assert_eq!(rt; memory.pins(0), 7);
+    assert_eq!(rt; memory.pins(16_383), 6);
+    guard_each(&mut gpu, &mut memory, &mut table, 16_384);
+    assert_eq!(rt; memory.pins(16_383), 6);
+    assert_eq!(rt; table.granted(99_999), Some(1_695));
+    table.clear(&mut gpu, &mut memory);
+    assert_eq!(rt; memory.pins(0), 0);
+    assert_eq!(rt; table.entry(99_999), 0);
     Ok(())
 }
 

@@ -1,10 +1,10 @@
-use Rattle.std.proofs.Common.{◌≡◌, ◌%◌, ℕ, ap, sym, subst}
+use Rattle.std.proofs.Common.{◌≡◌, ◌%◌, ℕ, None, ap, sym, subst, arith}
 use Rattle.gv_types.specs.declared.ranges.Ranges.{Ranges}
 use Rattle.gv_gpu.specs.Device.{Device, IsEmpty}
 use Rattle.gv_gpu.specs.Part.{outside, frames_part, entries_part}
 use Rattle.gv_gpu.proofs.Guests.{apart-frames-entries}
 use Rattle.gv_gpu.proofs.Changes.{leaves-outside}
-use Rattle.gv_guest.specs.Placed.{Placed}
+use Rattle.gv_guest.specs.Placed.{Placed, Hosts, nowhere}
 use Rattle.gv_engine.specs.Whole.{whole}
 use Rattle.gv_sggtt.specs.Table.{Table, zero_table}
 use Rattle.gv_sggtt.specs.Mirror.{Mirrors, AreAbsent}
@@ -23,3 +23,15 @@ mirrors-at-first d e guest ranges frames placed t is empty same =
 
 pub returns-clause-mirrors : goal.returns-clause-mirrors
 returns-clause-mirrors c = mirrors-at-first (whole c.new-gpu.result) (whole c.new.new.gpu) 0 _ _ c.in_ok-memory.memory.frames c.in_ok-table.table c.in_ok-table.ensures c.new-gpu.ensures c.in_ok-memory.ensures.outside
+
+stands-nowhere : (d : Device) (guest : ℕ) → IsEmpty d → Hosts d (nowhere guest)
+stands-nowhere d guest empty = record {
+  labelled = λ k h. absurd (omega arith);
+  long = λ k h. absurd (omega arith);
+  below = λ k h. absurd (omega arith);
+  apart = λ j k hj hk same. absurd (omega arith);
+  all = λ n h. let none : d.label n ≡ None = ap (λ (x : Device). x.label n) empty in cc;
+}
+
+pub new-requires-clause-none : goal.new-requires-clause-none
+new-requires-clause-none c = stands-nowhere (whole c.new-gpu.result) 0 c.new-gpu.ensures
