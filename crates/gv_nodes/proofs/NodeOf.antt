@@ -1,12 +1,12 @@
 -- The nodes as a function from level and frame: which node it gives, and what a change of a node does to it.
-use Rattle.std.proofs.Common.{ℕ, ◌≡◌, ◌≢◌, Bool, true, false, ◌&&◌, eqb, cond, List, [], ◌∷◌, map, Option, None, Some, is_some, refl, sym, ap, ◌∙◌, subst, inl, inr, ⊎_elim, arith, ◌⊎◌, ◌||◌}
+use Rattle.std.proofs.Common.{ℕ, ◌≡◌, ◌≢◌, Bool, true, false, eqb, cond, List, [], ◌∷◌, Option, None, Some, is_some, refl, sym, ap, ◌∙◌, subst, ⊎_elim, ◌||◌}
 use Rattle.std.specs.List.{list_any}
-use Rattle.std.proofs.lemmas.Bool.{eqb-true, eq-eqb, and_parts, and_from, cases_eq, cases_Bool}
+use Rattle.std.proofs.lemmas.Bool.{eqb-true, eq-eqb, and_parts, and_from, cases_eq}
 use Rattle.std.specs.Ordering.{nat_cmp, eq_by_cmp, is_eq}
 use Rattle.std.specs.declared.cmp.Ordering.TheVariants.{Less, Equal, Greater}
 use Rattle.std.specs.FinMap.{keys, contains_key-keys, nat_cmp-IsAntisymmetric}
 use Rattle.gv_nodes.specs.declared.nodes.Node.{Node}
-use Rattle.gv_nodes.specs.NodeMap.{NodeMap, node_at, IsKeyOf, IsAbsent, AreNodes, ChangesNode}
+use Rattle.gv_nodes.specs.NodeMap.{NodeMap, node_at, AreNodes, ChangesNode}
 use Rattle.gv_nodes.specs.NodeOf.{is_of, if_of, node_among, node_of}
 
 some_or_none : {A : Type 0} (o : Option A) (P : Type 0) → ((x : A) → o ≡ Some x → P) → (o ≡ None → P) → P

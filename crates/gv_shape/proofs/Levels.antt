@@ -1,12 +1,11 @@
 -- The levels of tables: which names which, and how far above the leaves each is.
-use Rattle.std.proofs.Common.{ℕ, ◌+◌, ◌*◌, ◌-◌, ◌≤◌, ◌<◌, ◌≡◌, ◌≢◌, Bool, true, false, not, ◌&&◌, ◌||◌, eqb, ltb, cond, refl, sym, ap, ◌∙◌, subst, arith, inl, inr, ⊎_elim}
-use Rattle.std.proofs.lemmas.Bool.{eqb-true, eq-eqb, ne_eqb, ltb-true, ltb-false, lt-ltb, cases_lt, cases_eq}
+use Rattle.std.proofs.Common.{ℕ, ◌+◌, ◌*◌, ◌≤◌, ◌<◌, ◌≡◌, Bool, true, false, ◌&&◌, eqb, ltb, refl, sym, ap, ◌∙◌, arith, ⊎_elim}
+use Rattle.std.proofs.lemmas.Bool.{eq-eqb, ne_eqb, lt-ltb, cases_lt, cases_eq}
 use Rattle.std.proofs.lemmas.Bool.Decides.{nat_tests}
-use Rattle.gv_entry.specs.declared.process.Process.{Process}
-use Rattle.gv_entry.specs.declared.process.Process.TheVariants.{Absent, Table, Large, Page, Bad}
+use Rattle.gv_entry.specs.declared.process.Process.TheVariants.{Table, Large, Page}
 use Rattle.gv_entry.specs.Tables.{entry_of}
 use Rattle.gv_types.specs.Memory.{Memory}
-use Rattle.gv_shape.specs.Shadow.{split_level, has_leaves, wanted}
+use Rattle.gv_shape.specs.Shadow.{split_level, wanted}
 use Rattle.gv_shape.specs.Counts.{above, names_node, naming, rank, one_if}
 
 pub low_level : (level : ℕ) → level < 5 → ltb level 5 ≡ true

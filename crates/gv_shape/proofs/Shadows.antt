@@ -1,17 +1,14 @@
 -- Shadow tables reach what is granted, stay right while their pages and tables stay, and are the live tables.
-use Rattle.std.proofs.Common.{ℕ, zero, suc, ◌+◌, ◌≤◌, ◌<◌, ◌≡◌, Bool, true, false, List, Option, None, Some, is_some, length, get_or, refl, sym, ap, ◌∙◌, subst, arith, cond, ltb, ⊎_elim}
-use Rattle.std.proofs.lemmas.Bool.{cases_lt, false≢true}
+use Rattle.std.proofs.Common.{ℕ, ◌≤◌, ◌≡◌, Bool, true, false, List, Option, None, Some, is_some, length, get_or, refl, sym, ap, ◌∙◌, subst, arith, ⊎_elim}
+use Rattle.std.proofs.lemmas.Bool.{cases_lt}
 use Rattle.gv_types.specs.Memory.{Memory}
 use Rattle.gv_entry.specs.declared.process.Process.{Process}
 use Rattle.gv_entry.specs.Entry.{process_entry}
-use Rattle.gv_entry.specs.Tables.{words_of, entry_of, is_guarded}
+use Rattle.gv_entry.specs.Tables.{words_of, is_guarded}
 use Rattle.gv_entry.specs.SameTables.{SameTables}
 use Rattle.gv_entry.proofs.SameTables.{tables_decide}
-use Rattle.gv_gpu.specs.Device.{Device}
-use Rattle.gv_guest.specs.Placed.{Placed, Hosts}
-use Rattle.gv_shape.specs.Shadow.{Pages, Readings, Names, Local, wanted, split_level, is_live, is_split}
-use Rattle.gv_shape.specs.Counts.{Settled}
-use Rattle.gv_shape.specs.Shadows.{Shadows, Reaches, ShadowsReach, KeepsPages, ShadowsKeep, AreLiveTables, NodesAreTheLiveTables}
+use Rattle.gv_shape.specs.Shadow.{Names, wanted, split_level, is_live, is_split}
+use Rattle.gv_shape.specs.Shadows.{ShadowsReach, ShadowsKeep, NodesAreTheLiveTables}
 use Rattle.gv_shape.proofs.Walk.{read-equals, write-equals}
 use Rattle.gv_shape.proofs.Live.{node-live, live-node, node-split, split-node}
 use Rattle.gv_shape.proofs.Levels.{wanted-low, wanted-high}

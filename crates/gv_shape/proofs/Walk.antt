@@ -1,18 +1,17 @@
 -- From the local form: the physical walk ends where the guest's does.
-use Rattle.std.proofs.Common.{ℕ, ◌+◌, ◌*◌, ◌-◌, ◌/◌, ◌%◌, ◌^◌, ◌≤◌, ◌<◌, ◌≡◌, ◌≢◌, Bool, true, false, not, ◌&&◌, eqb, cond, List, Option, None, Some, length, get_or, refl, sym, ap, ◌∙◌, subst, arith, is_some}
+use Rattle.std.proofs.Common.{ℕ, ◌+◌, ◌*◌, ◌-◌, ◌/◌, ◌%◌, ◌≤◌, ◌<◌, ◌≡◌, Bool, true, false, not, ◌&&◌, eqb, cond, List, Option, None, Some, length, get_or, refl, sym, ap, ◌∙◌, subst, arith}
 use Rattle.std.proofs.lemmas.Bool.{false≢true}
 use Rattle.std.proofs.lemmas.Bool.Decides.{nat_tests}
 use Rattle.gv_types.specs.Memory.{Memory}
 use Rattle.gv_entry.specs.declared.process.Process.{Process}
 use Rattle.gv_entry.specs.declared.process.Process.TheVariants.{Absent, Table, Large, Page, Bad}
-use Rattle.gv_entry.specs.Entry.{process_entry}
 use Rattle.gv_entry.specs.Tables.{entry_of, index_at, Mapped, mapped_page, through, through_or_large, walk, is_guarded}
 use Rattle.gv_entry.specs.Grants.{frame_of, if_writable, read_grant, write_grant}
 use Rattle.gv_gpu.specs.Device.{Device}
-use Rattle.gv_gpu.specs.Physical.{live_page, page_of, entry_in, third_table, second_table, first_table, leaf, entry_at, read_page, write_page}
+use Rattle.gv_gpu.specs.Physical.{live_page, page_of, entry_in, third_table, second_table, first_table, leaf, read_page, write_page}
 use Rattle.gv_guest.specs.Placed.{Placed, Hosts}
 use Rattle.gv_shape.specs.Shadows.{host_page}
-use Rattle.gv_shape.specs.Shadow.{Pages, Readings, shadow_label, split_level, has_leaves, table_word, split_word, leaf_word, Names, Local, wanted}
+use Rattle.gv_shape.specs.Shadow.{Pages, shadow_label, split_level, has_leaves, table_word, split_word, leaf_word, Names, Local, wanted}
 
 -- where a walk ends, and the physical entry there
 abbrev pub Leads : Placed → (ℕ → Bool) → Option Mapped → ℕ → Type 0

@@ -1,11 +1,10 @@
 -- How often the words of nodes name a table or map a frame.
-use Rattle.std.specs.Prelude.{ℕ, ◌+◌, ◌<◌, ◌≤◌, ◌≡◌, zero, suc, Bool, true, false, ◌&&◌, ◌==◌, nat_lt, if◌then◌else◌, List, Option, None, Some, length}
+use Rattle.std.specs.Prelude.{ℕ, ◌+◌, ◌<◌, ◌≤◌, ◌≡◌, zero, suc, Bool, false, ◌&&◌, ◌==◌, nat_lt, if◌then◌else◌, List, None, Some}
 use Rattle.std.specs.List.{list_any}
 use Rattle.gv_types.specs.Memory.{Memory}
 use Rattle.gv_entry.specs.declared.process.Process.{Process}
-use Rattle.gv_entry.specs.declared.process.Process.TheVariants.{Absent, Table, Large, Page, Bad}
-use Rattle.gv_entry.specs.Tables.{entry_of, names, names_large, words_of}
-use Rattle.gv_shape.specs.Shadow.{Pages, Readings, split_level, wanted, is_live}
+use Rattle.gv_entry.specs.declared.process.Process.TheVariants.{Absent, Table, Large, Page}
+use Rattle.gv_shape.specs.Shadow.{Pages, Readings, split_level, wanted}
 
 -- the sum of f over the numbers below n
 unfoldable pub total : ℕ → (ℕ → ℕ) → ℕ

@@ -1,14 +1,14 @@
 -- A bad entry of a live table, and the tables that live tables name.
-use Rattle.std.proofs.Common.{ℕ, zero, suc, ◌+◌, ◌-◌, ◌≤◌, ◌<◌, ◌≡◌, Bool, true, false, eqb, cond, not, List, [], ◌∷◌, length, get_or, map, Some, refl, sym, ap, ◌∙◌, subst, arith, ⊎_elim, ◌||◌, ◌&&◌, ◌%◌, ◌/◌, ◌*◌, ltb}
+use Rattle.std.proofs.Common.{ℕ, zero, suc, ◌+◌, ◌-◌, ◌≤◌, ◌<◌, ◌≡◌, Bool, true, false, eqb, cond, not, List, [], ◌∷◌, length, refl, sym, ap, ◌∙◌, subst, arith, ⊎_elim, ◌%◌, ltb}
 use Rattle.std.specs.List.{list_any}
 use Rattle.std.proofs.lemmas.Bool.{eqb-true, eqb-false, eq-eqb, or_parts, not-false, ltb-true, cases_eq, cases_lt, and_parts}
-use Rattle.std.proofs.lemmas.List.{length-map, get_or-map, get_or_default}
+use Rattle.std.proofs.lemmas.List.{get_or-map}
 use Rattle.std.proofs.lemmas.List.Folds.{Any-from_list_any, list_any_at}
 use Rattle.gv_types.specs.Memory.{Memory}
 use Rattle.gv_entry.specs.declared.process.Process.{Process}
 use Rattle.gv_entry.specs.declared.process.Process.TheVariants.{Absent, Table, Page, Bad, Large}
 use Rattle.gv_entry.specs.Entry.{process_entry, is_set, is_bad, process_frame_of, is_large, base_frame_of}
-use Rattle.gv_entry.specs.Tables.{entry_of, words_of, any_entry, is_bad_entry, has_bad_entry, live, names, tables_named}
+use Rattle.gv_entry.specs.Tables.{entry_of, words_of, any_entry, is_bad_entry, has_bad_entry, live, names}
 use Rattle.gv_gpu.specs.Device.{Device}
 use Rattle.gv_guest.specs.Placed.{Placed, Hosts, memory_in}
 use Rattle.gv_shape.specs.Shadow.{is_live, split_level}

@@ -1,5 +1,5 @@
 -- What calls leave, one after another.
-use Rattle.std.proofs.Common.{ℕ, ◌+◌, ◌≡◌, List, length, get_or, refl, sym, ap, ◌∙◌, arith}
+use Rattle.std.proofs.Common.{ℕ, ◌+◌, ◌≡◌, List, get_or, refl, sym, ◌∙◌, arith}
 use Rattle.gv_gpu.specs.Device.{Device}
 use Rattle.gv_guest.specs.Placed.{Placed}
 use Rattle.gv_shape.specs.Counts.{leaves}

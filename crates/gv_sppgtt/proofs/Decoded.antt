@@ -1,12 +1,11 @@
 -- What a word stands for.
-use Rattle.std.proofs.Common.{ℕ, ◌+◌, ◌*◌, ◌-◌, ◌/◌, ◌%◌, ◌≤◌, ◌<◌, ◌≡◌, ◌≢◌, Bool, true, false, not, ◌&&◌, eqb, cond, List, Option, None, Some, length, get_or, set, get_or-set_same, get_or-set_other, refl, sym, ap, ◌∙◌, subst, arith, inl, inr, ⊎_elim}
-use Rattle.std.proofs.lemmas.Bool.{cases_eq, cases_Bool, eqb-true, eq-eqb, ne_eqb}
+use Rattle.std.proofs.Common.{ℕ, ◌+◌, ◌-◌, ◌/◌, ◌%◌, ◌≤◌, ◌<◌, ◌≡◌, Bool, true, false, eqb, List, length, get_or, set, get_or-set_same, get_or-set_other, refl, sym, ap, ◌∙◌, arith, ⊎_elim}
+use Rattle.std.proofs.lemmas.Bool.{cases_eq, eq-eqb, ne_eqb}
 use Rattle.std.proofs.lemmas.Bool.Decides.{nat_tests}
 use Rattle.std.proofs.lemmas.List.{get_or_default}
-use Rattle.gv_entry.specs.declared.process.Process.{Process}
-use Rattle.gv_entry.specs.declared.process.Process.TheVariants.{Absent, Table, Page, Bad}
-use Rattle.gv_shape.specs.Shadow.{leaf_word, table_word, has_leaves}
-use Rattle.gv_shape.specs.Counts.{maps, one_if}
+use Rattle.gv_entry.specs.declared.process.Process.TheVariants.{Absent, Page}
+use Rattle.gv_shape.specs.Shadow.{leaf_word, has_leaves}
+use Rattle.gv_shape.specs.Counts.{one_if}
 use Rattle.gv_sppgtt.specs.Sound.{decode}
 
 pub decode-even : (owners : List ℕ) (level word : ℕ) → word % 2 ≡ 0 → decode owners level word ≡ Absent

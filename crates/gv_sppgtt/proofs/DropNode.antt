@@ -1,20 +1,18 @@
 -- A node goes: all of its words are absent, and no word names it.
-use Rattle.std.proofs.Common.{ℕ, zero, suc, ◌+◌, ◌*◌, ◌-◌, ◌/◌, ◌%◌, ◌^◌, ◌≤◌, ◌<◌, ◌≡◌, ◌≢◌, Bool, true, false, ◌&&◌, eqb, cond, List, [], Option, None, Some, length, get_or, is_some, refl, sym, ap, ◌∙◌, subst, arith, inl, inr, ⊎_elim, ◌⊎◌}
+use Rattle.std.proofs.Common.{ℕ, ◌-◌, ◌≤◌, ◌<◌, ◌≡◌, ◌≢◌, Bool, true, false, cond, List, [], Option, None, Some, length, get_or, refl, sym, ap, ◌∙◌, subst, arith, inl, inr, ⊎_elim, ◌⊎◌}
 use Rattle.std.proofs.lemmas.Bool.{cases_eq, eq-eqb, ne_eqb}
-use Rattle.gv_types.specs.Maps.{put}
 use Rattle.gv_entry.specs.declared.process.Process.{Process}
 use Rattle.gv_entry.specs.declared.process.Process.TheVariants.{Absent, Table, Page, Bad, Large}
-use Rattle.gv_entry.specs.Tables.{names}
 use Rattle.gv_gpu.specs.Device.{Device, released}
 use Rattle.gv_gpu.specs.Part.{outside, is_shadow_of}
 use Rattle.gv_gpu.proofs.Changed.{outside-released}
-use Rattle.gv_guest.specs.Placed.{Placed, Hosts}
-use Rattle.gv_nodes.specs.NodeMap.{NodeMap, AreNodes}
+use Rattle.gv_guest.specs.Placed.{Placed}
+use Rattle.gv_nodes.specs.NodeMap.{NodeMap}
 use Rattle.gv_rmap.specs.Chains.{ReverseMap}
-use Rattle.gv_shape.specs.Shadow.{Pages, Readings, Names, Local, shadow_label}
-use Rattle.gv_shape.specs.Counts.{total, uses, maps, one_if, namings, naming, above, names_node}
+use Rattle.gv_shape.specs.Shadow.{Pages, Readings, Names, shadow_label}
+use Rattle.gv_shape.specs.Counts.{uses, one_if, namings, naming, above, names_node}
 use Rattle.gv_shape.proofs.Totals.{total-same}
-use Rattle.gv_sppgtt.specs.Sound.{decode, reading_at, readings_in, pages_in, parents_in, flag, Boarded, Sound}
+use Rattle.gv_sppgtt.specs.Sound.{decode, reading_at, readings_in, pages_in, parents_in, flag, Sound}
 use Rattle.gv_sppgtt.specs.State.{shadow_part}
 use Rattle.gv_sppgtt.proofs.PutLeaf.{uses-at}
 use Rattle.gv_shape.proofs.Levels.{naming-low, above-low, names-it}

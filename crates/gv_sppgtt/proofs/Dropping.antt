@@ -1,14 +1,12 @@
 -- The steps of dropping a node with all that it names.
-use Rattle.std.proofs.Common.{ℕ, zero, suc, ◌+◌, ◌*◌, ◌-◌, ◌≤◌, ◌<◌, ◌≡◌, ◌≢◌, Bool, true, false, ◌&&◌, eqb, cond, List, Option, None, Some, length, refl, sym, ap, ◌∙◌, subst, arith, inl, inr, ⊎_elim, ◌⊎◌}
-use Rattle.std.proofs.lemmas.Bool.{cases_eq, eqb-true, eq-eqb, ne_eqb, and_parts}
+use Rattle.std.proofs.Common.{ℕ, ◌+◌, ◌*◌, ◌≤◌, ◌<◌, ◌≡◌, Bool, true, false, ◌&&◌, eqb, None, Some, refl, sym, ap, ◌∙◌, subst, arith, inl, inr, ⊎_elim, ◌⊎◌}
+use Rattle.std.proofs.lemmas.Bool.{cases_eq, eq-eqb, ne_eqb}
 use Rattle.std.proofs.lemmas.Bool.Decides.{nat_tests}
 use Rattle.gv_entry.specs.declared.process.Process.{Process}
-use Rattle.gv_entry.specs.declared.process.Process.TheVariants.{Absent, Table, Page, Bad, Large}
-use Rattle.gv_entry.specs.Tables.{names}
-use Rattle.gv_shape.specs.Shadow.{Pages, Readings}
-use Rattle.gv_shape.specs.Counts.{total, uses, maps, one_if, namings, above, names_node, naming, rank}
+use Rattle.gv_entry.specs.declared.process.Process.TheVariants.{Absent}
+use Rattle.gv_shape.specs.Counts.{uses, one_if, namings, above, names_node, naming, rank}
 use Rattle.gv_sppgtt.specs.Sound.{Enters, IsBelow}
-use Rattle.gv_sppgtt.specs.Grown.{Sketch, Balanced, one_at, none_at, Dropped, Emptying, Emptied}
+use Rattle.gv_sppgtt.specs.Grown.{Sketch, one_at, Dropped, Emptying, Emptied}
 use Rattle.gv_sppgtt.proofs.Entered.{uses-entered, uses-other}
 use Rattle.gv_shape.proofs.Levels.{naming-at, rank-below}
 

@@ -1,22 +1,16 @@
 -- One word of a node is written.
-use Rattle.std.proofs.Common.{ℕ, ◌+◌, ◌*◌, ◌-◌, ◌/◌, ◌%◌, ◌^◌, ◌≤◌, ◌<◌, ◌≡◌, ◌≢◌, Bool, true, false, not, ◌&&◌, eqb, cond, List, Option, None, Some, length, get_or, set, get_or-set_same, get_or-set_other, refl, sym, ap, ◌∙◌, subst, arith, inl, inr, ⊎_elim, ◌⊎◌}
-use Rattle.std.proofs.lemmas.Bool.{cases_eq, cases_Bool, eqb-true, eq-eqb, ne_eqb}
+use Rattle.std.proofs.Common.{ℕ, ◌+◌, ◌-◌, ◌/◌, ◌%◌, ◌<◌, ◌≡◌, ◌≢◌, Bool, true, false, eqb, cond, List, Option, None, Some, length, get_or, set, get_or-set_same, get_or-set_other, refl, sym, ap, ◌∙◌, subst, arith, inl, inr, ⊎_elim, ◌⊎◌}
+use Rattle.std.proofs.lemmas.Bool.{cases_eq, ne_eqb}
 use Rattle.std.proofs.lemmas.Bool.Decides.{nat_tests}
 use Rattle.std.proofs.lemmas.List.{length-set}
-use Rattle.gv_types.specs.Maps.{put}
-use Rattle.gv_types.specs.declared.ids.Label.{Label}
 use Rattle.gv_entry.specs.declared.process.Process.{Process}
 use Rattle.gv_entry.specs.declared.process.Process.TheVariants.{Absent, Table, Page, Bad, Large}
-use Rattle.gv_entry.specs.Tables.{names}
 use Rattle.gv_gpu.specs.Device.{Device, poked}
-use Rattle.gv_guest.specs.Placed.{Placed, Hosts, frame_label}
-use Rattle.gv_rmap.specs.declared.leaf.Leaf.{Leaf}
-use Rattle.gv_rmap.specs.Leaves.{leaf_at, key}
-use Rattle.gv_rmap.specs.Chains.{ReverseMap, chain_of}
-use Rattle.gv_shape.specs.Shadow.{Pages, Readings, Names, Local, shadow_label, leaf_word, table_word, has_leaves, split_level, split_word}
-use Rattle.gv_shape.specs.Counts.{total, uses, maps, one_if}
+use Rattle.gv_guest.specs.Placed.{Placed}
+use Rattle.gv_shape.specs.Shadow.{Pages, Readings, Names, Local, table_word, has_leaves, split_level, split_word}
+use Rattle.gv_shape.specs.Counts.{total, uses, one_if}
 use Rattle.gv_shape.proofs.Totals.{total-same, total-change}
-use Rattle.gv_sppgtt.specs.Sound.{decode, reading_at, readings_in, Boarded, Chained, Enters, leaf_of}
+use Rattle.gv_sppgtt.specs.Sound.{decode, reading_at, readings_in, Boarded, Enters}
 use Rattle.gv_sppgtt.proofs.Decoded.{decode-even, leaf-page}
 
 same_page : (h w : _) (k v : _) → Page h w ≡ Page k v → h ≡ k

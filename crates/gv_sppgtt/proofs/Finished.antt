@@ -1,5 +1,5 @@
 -- Where nothing is left to do: what the tables promise.
-use Rattle.std.proofs.Common.{ℕ, ◌+◌, ◌≤◌, ◌<◌, ◌≡◌, Bool, true, false, List, [], ◌∷◌, Option, Some, None, length, get_or, refl, sym, ap, ◌∙◌, subst, arith}
+use Rattle.std.proofs.Common.{ℕ, ◌+◌, ◌≤◌, ◌<◌, ◌≡◌, Bool, true, false, List, Some, length, get_or, refl, ap, ◌∙◌, subst, arith}
 use Rattle.std.specs.List.{list_any}
 use Rattle.std.proofs.Common.{◌||◌, eqb}
 use Rattle.std.proofs.lemmas.List.{get_or_default}
@@ -8,7 +8,7 @@ use Rattle.std.proofs.lemmas.List.Folds.{Any-from_list_any, list_any_at}
 use Rattle.gv_entry.specs.declared.process.Process.{Process}
 use Rattle.gv_entry.specs.declared.process.Process.TheVariants.{Absent, Table, Page, Bad, Large}
 use Rattle.gv_entry.specs.Entry.{process_entry}
-use Rattle.gv_entry.specs.Tables.{entry_of, words_of, any_entry, is_bad_entry, has_bad_entry, live, is_guarded}
+use Rattle.gv_entry.specs.Tables.{words_of, any_entry, is_bad_entry, has_bad_entry, live, is_guarded}
 use Rattle.gv_entry.specs.Grants.{read_grant, write_grant}
 use Rattle.gv_gpu.specs.Device.{Device}
 use Rattle.gv_gpu.specs.Physical.{read_page, write_page}
@@ -16,12 +16,12 @@ use Rattle.gv_guest.specs.Placed.{Placed, memory_in}
 use Rattle.gv_shape.specs.Shadow.{Names, Local, wanted, is_live, split_level, leaf_word}
 use Rattle.gv_shape.specs.Shadows.{host_page}
 use Rattle.gv_shape.proofs.Walk.{read-equals, write-equals}
-use Rattle.gv_sppgtt.specs.Sound.{pages_in, flag}
+use Rattle.gv_sppgtt.specs.Sound.{flag}
 use Rattle.gv_sppgtt.specs.State.{pages_of, readings_of, sketch_of}
 use Rattle.gv_sppgtt.specs.Grown.{Rests}
 use Rattle.gv_sppgtt.specs.Holding.{Holds}
 use Rattle.gv_sppgtt.specs.declared.tables.Tables.{Tables}
-use Rattle.gv_sppgtt.proofs.Resting.{rests-live, live-rests}
+use Rattle.gv_sppgtt.proofs.Resting.{live-rests}
 use Rattle.gv_sppgtt.proofs.BadEntries.{frame-words}
 use Rattle.gv_shape.proofs.Levels.{wanted-low}
 

@@ -1,12 +1,12 @@
 -- A frame becomes guarded or unguarded: its leaves are rewritten one by one. In between each word has the
 -- guards as they are at its own key.
-use Rattle.std.proofs.Common.{ℕ, ◌+◌, ◌*◌, ◌-◌, ◌/◌, ◌%◌, ◌^◌, ◌≤◌, ◌<◌, ◌≡◌, ◌≢◌, Bool, true, false, not, ◌&&◌, eqb, cond, List, Option, None, Some, length, get_or, set, get_or-set_same, get_or-set_other, refl, sym, ap, ◌∙◌, subst, arith, inl, inr, ⊎_elim, ◌⊎◌}
+use Rattle.std.proofs.Common.{ℕ, ◌+◌, ◌*◌, ◌/◌, ◌%◌, ◌^◌, ◌<◌, ◌≡◌, ◌≢◌, Bool, true, ◌&&◌, eqb, cond, List, Some, get_or, set, get_or-set_same, get_or-set_other, refl, sym, ap, ◌∙◌, subst, arith, inl, inr, ⊎_elim, ◌⊎◌}
 use Rattle.std.proofs.lemmas.Bool.{cases_eq, eq-eqb, ne_eqb}
 use Rattle.gv_entry.specs.declared.process.Process.{Process}
 use Rattle.gv_entry.specs.declared.process.Process.TheVariants.{Absent, Table, Page, Bad, Large}
 use Rattle.gv_gpu.specs.Device.{Device, poked}
 use Rattle.gv_guest.specs.Placed.{Placed}
-use Rattle.gv_shape.specs.Shadow.{Pages, Readings, Names, Local, shadow_label, leaf_word, has_leaves}
+use Rattle.gv_shape.specs.Shadow.{Pages, Readings, Names, shadow_label, leaf_word, has_leaves}
 use Rattle.gv_sppgtt.specs.Sound.{decode, reading_at, readings_in, Boarded}
 use Rattle.gv_sppgtt.proofs.Decoded.{decode-odd, leaf-odd, leaf-page, leaf-wanted, decode-leaf}
 

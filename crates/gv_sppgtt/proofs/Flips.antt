@@ -1,6 +1,6 @@
 -- The leaves of a frame are rewritten one after another.
-use Rattle.std.proofs.Common.{ℕ, zero, suc, ◌+◌, ◌*◌, ◌-◌, ◌/◌, ◌%◌, ◌^◌, ◌≤◌, ◌<◌, ◌≡◌, ◌≢◌, Bool, true, false, not, ◌&&◌, ◌||◌, eqb, cond, List, [], ◌∷◌, ◌++◌, Option, None, Some, length, get_or, set, get_or-set_same, get_or-set_other, refl, sym, ap, ◌∙◌, subst, arith, inl, inr, ⊎_elim, ◌⊎◌}
-use Rattle.std.specs.List.{list_any, find, All}
+use Rattle.std.proofs.Common.{ℕ, ◌+◌, ◌*◌, ◌^◌, ◌<◌, ◌≡◌, Bool, true, false, ◌&&◌, ◌||◌, eqb, cond, List, [], ◌∷◌, ◌++◌, Option, None, Some, length, get_or, set, get_or-set_same, get_or-set_other, refl, sym, ap, ◌∙◌, subst, arith, ⊎_elim}
+use Rattle.std.specs.List.{list_any, All}
 use Rattle.std.proofs.lemmas.Bool.{cases_eq, eq-eqb, ne_eqb}
 use Rattle.std.proofs.lemmas.List.{length-set}
 use Rattle.std.proofs.lemmas.List.Folds.{list_any-append}
@@ -13,16 +13,16 @@ use Rattle.gv_guest.specs.Placed.{Placed}
 use Rattle.gv_rmap.specs.declared.leaf.Leaf.{Leaf}
 use Rattle.gv_rmap.specs.Leaves.{leaf_at, key}
 use Rattle.gv_rmap.specs.Chains.{chain_of}
-use Rattle.gv_shape.specs.Shadow.{Pages, Names, Local, leaf_word, has_leaves}
+use Rattle.gv_shape.specs.Shadow.{Names, Local, leaf_word, has_leaves}
 use Rattle.gv_shape.specs.Shadow.{Readings}
-use Rattle.gv_sppgtt.specs.Sound.{reading_at, readings_in, Boarded, Chained, Counted, Pinned, flag}
+use Rattle.gv_sppgtt.specs.Sound.{reading_at, Boarded, Chained, Counted, Pinned, flag}
 use Rattle.gv_sppgtt.specs.State.{parents_of}
 use Rattle.gv_sppgtt.specs.State.{own_in, own_part, pages_of, readings_of, shadow_part}
 use Rattle.gv_sppgtt.specs.Holding.{Holds}
 use Rattle.gv_sppgtt.specs.declared.tables.Tables.{Tables}
 use Rattle.gv_sppgtt.proofs.Flipped.{Guards, LocalBy, with_guard, names-guards, local-flipped, flipped-readings}
 use Rattle.gv_sppgtt.proofs.OwnPages.{own-poked, page-own}
-use Rattle.gv_sppgtt.proofs.Outside.{shadow-poked, stands-shadow, memory-shadow}
+use Rattle.gv_sppgtt.proofs.Outside.{shadow-poked, stands-shadow}
 
 abbrev pub guards_after : List Bool → ℕ → Bool → List Leaf → Guards
 guards_after told frame new done q x = cond (list_any (λ leaf. eqb (key leaf) q) done && eqb x frame) new (flag told x)

@@ -1,12 +1,11 @@
 -- Tables without nodes serve any memory.
-use Rattle.std.proofs.Common.{ℕ, zero, suc, ◌+◌, ◌*◌, ◌^◌, ◌≤◌, ◌<◌, ◌≡◌, Bool, true, false, ◌&&◌, ltb, eqb, List, [], Option, None, Some, is_some, length, get_or, replicate, refl, sym, ap, ◌∙◌, subst, arith}
+use Rattle.std.proofs.Common.{ℕ, zero, suc, ◌+◌, ◌*◌, ◌≤◌, ◌≡◌, Bool, true, false, ◌&&◌, ltb, eqb, List, [], Option, None, Some, is_some, length, get_or, replicate, refl, sym, ap, ◌∙◌, subst, arith}
 use Rattle.std.proofs.lemmas.List.{length-replicate}
-use Rattle.gv_types.specs.Memory.{Memory}
 use Rattle.gv_entry.specs.declared.process.Process.{Process}
 use Rattle.gv_entry.specs.declared.process.Process.TheVariants.{Absent}
 use Rattle.gv_gpu.specs.Device.{Device}
-use Rattle.gv_guest.specs.Placed.{Placed, Hosts, memory_in}
-use Rattle.gv_nodes.specs.NodeMap.{NodeMap, AreNodes, IsKeyOf, no_nodes, node_at}
+use Rattle.gv_guest.specs.Placed.{Placed, memory_in}
+use Rattle.gv_nodes.specs.NodeMap.{NodeMap, AreNodes, no_nodes, node_at}
 use Rattle.gv_nodes.specs.declared.nodes.Node.{Node}
 use Rattle.gv_nodes.specs.NodeOf.{node_of}
 use Rattle.gv_nodes.proofs.NodeOf.{node_of-from}
@@ -15,13 +14,13 @@ use Rattle.std.specs.Ordering.{nat_cmp}
 use Rattle.gv_rmap.specs.declared.leaf.Leaf.{Leaf}
 use Rattle.gv_rmap.specs.Leaves.{leaf_at}
 use Rattle.gv_rmap.specs.Chains.{ReverseMap, no_leaves, chain_of}
-use Rattle.gv_shape.specs.Shadow.{Pages, Readings}
+use Rattle.gv_shape.specs.Shadow.{Readings}
 use Rattle.gv_shape.specs.Counts.{total, uses, namings, above, names_node, leaves, maps, one_if, is_among}
 use Rattle.gv_shape.proofs.Totals.{total-same}
-use Rattle.gv_sppgtt.specs.Sound.{page_of_node, parents_of_node, flag, reading_at, IsWhole}
+use Rattle.gv_sppgtt.specs.Sound.{page_of_node, parents_of_node, flag, reading_at}
 use Rattle.gv_sppgtt.specs.Grown.{count_of, nodes_of, splits_of}
-use Rattle.gv_sppgtt.specs.State.{pages_of, parents_of, readings_of, sketch_of, is_table}
-use Rattle.gv_sppgtt.specs.Serving.{roots_of, guarded_of, Serves, IsReady}
+use Rattle.gv_sppgtt.specs.State.{pages_of, parents_of, readings_of, is_table}
+use Rattle.gv_sppgtt.specs.Serving.{roots_of, Serves, IsReady}
 use Rattle.gv_sppgtt.specs.declared.tables.Tables.{Tables}
 use Rattle.gv_sppgtt.proofs.Serving.{is-root}
 

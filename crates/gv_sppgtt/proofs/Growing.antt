@@ -1,16 +1,15 @@
 -- The steps of making a node with all that it names.
-use Rattle.std.proofs.Common.{ℕ, zero, suc, ◌+◌, ◌*◌, ◌-◌, ◌≤◌, ◌<◌, ◌≡◌, ◌≢◌, Bool, true, false, ◌&&◌, eqb, cond, List, Option, None, Some, length, refl, sym, ap, ◌∙◌, subst, arith, inl, inr, ⊎_elim, ◌⊎◌}
-use Rattle.std.proofs.lemmas.Bool.{cases_eq, eqb-true, eq-eqb, ne_eqb, and_parts}
+use Rattle.std.proofs.Common.{ℕ, ◌+◌, ◌*◌, ◌≤◌, ◌<◌, ◌≡◌, Bool, true, false, ◌&&◌, eqb, Option, None, Some, refl, sym, ap, ◌∙◌, subst, arith, inl, inr, ⊎_elim, ◌⊎◌}
+use Rattle.std.proofs.lemmas.Bool.{cases_eq, eq-eqb, ne_eqb}
 use Rattle.std.proofs.lemmas.Bool.Decides.{nat_tests}
 use Rattle.gv_types.specs.Memory.{Memory}
 use Rattle.gv_entry.specs.declared.process.Process.{Process}
-use Rattle.gv_entry.specs.declared.process.Process.TheVariants.{Absent, Table, Page, Bad, Large}
-use Rattle.gv_entry.specs.Tables.{entry_of, names}
-use Rattle.gv_shape.specs.Shadow.{Pages, Readings, wanted}
-use Rattle.gv_shape.specs.Counts.{total, uses, maps, one_if, namings, above, names_node, naming, rank}
+use Rattle.gv_entry.specs.declared.process.Process.TheVariants.{Absent, Page}
+use Rattle.gv_shape.specs.Shadow.{wanted}
+use Rattle.gv_shape.specs.Counts.{uses, one_if, namings, above, names_node, naming, rank}
 use Rattle.gv_sppgtt.specs.Sound.{Enters, IsBelow}
 use Rattle.gv_shape.proofs.Totals.{total-same}
-use Rattle.gv_sppgtt.specs.Grown.{Sketch, Balanced, one_at, none_at, Kept, Made, Growing, Filled, Modest}
+use Rattle.gv_sppgtt.specs.Grown.{Sketch, one_at, Kept, Made, Growing, Filled, Modest}
 use Rattle.gv_sppgtt.proofs.Entered.{uses-entered, uses-other}
 use Rattle.gv_shape.proofs.Levels.{naming-at, rank-below}
 

@@ -1,16 +1,14 @@
 -- A node gets one parent more, and nothing else changes.
-use Rattle.std.proofs.Common.{ℕ, ◌+◌, ◌≤◌, ◌<◌, ◌≡◌, Bool, true, false, ◌&&◌, eqb, List, Option, None, Some, length, refl, sym, ap, ◌∙◌, subst, arith, inl, inr, ⊎_elim}
-use Rattle.std.proofs.lemmas.Bool.{cases_eq, eq-eqb, ne_eqb}
+use Rattle.std.proofs.Common.{ℕ, ◌+◌, ◌≡◌, Bool, true, false, ◌&&◌, eqb, List, None, Some, length, refl, sym, ap, ◌∙◌, arith, ⊎_elim}
+use Rattle.std.proofs.lemmas.Bool.{cases_eq, ne_eqb}
 use Rattle.std.proofs.lemmas.Bool.Decides.{nat_tests}
 use Rattle.gv_types.specs.Memory.{Memory}
-use Rattle.gv_entry.specs.Tables.{names}
 use Rattle.gv_gpu.specs.Device.{Device}
 use Rattle.gv_guest.specs.Placed.{Placed}
 use Rattle.gv_nodes.specs.NodeMap.{AreNodes}
-use Rattle.gv_shape.specs.Shadow.{Pages}
-use Rattle.gv_shape.specs.Counts.{uses, one_if, namings}
-use Rattle.gv_sppgtt.specs.Sound.{pages_in, parents_in, readings_in}
-use Rattle.gv_sppgtt.specs.Grown.{Sketch, one_at, Growing}
+use Rattle.gv_shape.specs.Counts.{one_if, namings}
+use Rattle.gv_sppgtt.specs.Sound.{pages_in, readings_in}
+use Rattle.gv_sppgtt.specs.Grown.{one_at, Growing}
 use Rattle.gv_sppgtt.specs.State.{pages_of, parents_of, sketch_of}
 use Rattle.gv_sppgtt.specs.Holding.{Holds, Keeps}
 use Rattle.gv_sppgtt.specs.declared.tables.Tables.{Tables}

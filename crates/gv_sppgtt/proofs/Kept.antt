@@ -6,8 +6,8 @@ use Rattle.gv_guest.specs.Placed.{Placed}
 use Rattle.gv_nodes.specs.NodeMap.{AreNodes}
 use Rattle.gv_shape.specs.Shadow.{Pages}
 use Rattle.gv_shape.specs.Counts.{leaves}
-use Rattle.gv_sppgtt.specs.Sound.{pages_in, readings_in}
-use Rattle.gv_sppgtt.specs.State.{own_in, own_part, is_table, pages_of, readings_of}
+use Rattle.gv_sppgtt.specs.Sound.{readings_in}
+use Rattle.gv_sppgtt.specs.State.{own_in, is_table, pages_of, readings_of}
 use Rattle.gv_sppgtt.specs.Holding.{Keeps}
 use Rattle.gv_sppgtt.specs.declared.tables.Tables.{Tables}
 use Rattle.gv_sppgtt.proofs.OwnPages.{own-same, part-same}

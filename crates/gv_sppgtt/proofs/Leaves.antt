@@ -1,10 +1,10 @@
 -- The chains, when a word of a table of level 1 is written.
-use Rattle.std.proofs.Common.{ℕ, ◌+◌, ◌*◌, ◌-◌, ◌^◌, ◌≤◌, ◌<◌, ◌≡◌, ◌≢◌, Bool, true, false, ◌&&◌, eqb, cond, List, Option, None, Some, refl, sym, ap, ◌∙◌, subst, arith, inl, inr, ⊎_elim, ◌⊎◌}
-use Rattle.std.proofs.lemmas.Bool.{cases_eq, cases_Bool, eqb-true, eq-eqb, ne_eqb, and_parts}
+use Rattle.std.proofs.Common.{ℕ, ◌+◌, ◌*◌, ◌^◌, ◌<◌, ◌≡◌, ◌≢◌, Bool, true, false, eqb, cond, None, Some, refl, sym, ap, ◌∙◌, arith, ⊎_elim}
+use Rattle.std.proofs.lemmas.Bool.{cases_eq, eqb-true, eq-eqb, ne_eqb}
 use Rattle.gv_entry.specs.declared.process.Process.{Process}
 use Rattle.gv_entry.specs.declared.process.Process.TheVariants.{Absent, Table, Page, Bad, Large}
 use Rattle.gv_rmap.specs.declared.leaf.Leaf.{Leaf}
-use Rattle.gv_rmap.specs.Leaves.{leaf_at, key}
+use Rattle.gv_rmap.specs.Leaves.{leaf_at}
 use Rattle.gv_rmap.specs.Chains.{ReverseMap, chain_of}
 use Rattle.gv_shape.specs.Shadow.{Pages, Readings, has_leaves}
 use Rattle.gv_sppgtt.specs.Sound.{Chained, Enters, leaf_of, place_leaf}
@@ -22,7 +22,7 @@ module _ (pages : Pages) (old new : Readings) (chains after : ReverseMap) (table
   placed_leaf : (h : ℕ) (w : Bool) → e ≡ Page h w → place_leaf page index h e ≡ Some (leaf_of page index w)
   placed_leaf h w same = ap (place_leaf page index h) same ∙ ap (λ b. cond b (Some (leaf_of page index w)) None) (eq-eqb h h refl)
 
-  -- what stands at the key is a leaf of what was written
+  -- what stands at the place is a leaf of what was written
   from_place : (h : ℕ) (x : Process) (leaf : Leaf) → place_leaf page index h x ≡ Some leaf → (x ≡ Page h leaf.writable) × (leaf ≡ leaf_of page index leaf.writable)
   from_place h Absent leaf s = cc
   from_place h (Table t) leaf s = cc

@@ -1,15 +1,13 @@
 -- A node lost a parent that no word names, and nothing else changed.
-use Rattle.std.proofs.Common.{ℕ, ◌+◌, ◌*◌, ◌≤◌, ◌<◌, ◌≡◌, List, length, refl, sym, ap, ◌∙◌, subst, arith, ⊎_elim}
+use Rattle.std.proofs.Common.{ℕ, ◌+◌, ◌≤◌, ◌≡◌, List, length, sym, ap, ◌∙◌, subst, arith, ⊎_elim}
 use Rattle.std.proofs.lemmas.Bool.{cases_eq}
-use Rattle.gv_entry.specs.Tables.{names}
 use Rattle.gv_gpu.specs.Device.{Device}
 use Rattle.gv_guest.specs.Placed.{Placed}
 use Rattle.gv_nodes.specs.NodeMap.{AreNodes}
-use Rattle.gv_shape.specs.Shadow.{Pages, Local}
-use Rattle.gv_shape.specs.Counts.{uses, namings}
-use Rattle.gv_sppgtt.specs.Sound.{Sound, Boarded, Chained, pages_in, parents_in, readings_in, flag}
-use Rattle.gv_sppgtt.specs.State.{pages_of, parents_of, readings_of, sketch_of}
-use Rattle.gv_sppgtt.specs.Grown.{Emptying}
+use Rattle.gv_shape.specs.Shadow.{Local}
+use Rattle.gv_shape.specs.Counts.{namings}
+use Rattle.gv_sppgtt.specs.Sound.{Boarded, Chained, pages_in, readings_in, flag}
+use Rattle.gv_sppgtt.specs.State.{pages_of, parents_of, readings_of}
 use Rattle.gv_sppgtt.specs.Holding.{Holds, Keeps}
 use Rattle.gv_sppgtt.specs.declared.tables.Tables.{Tables}
 use Rattle.gv_sppgtt.proofs.Kept.{keeps-nodes}

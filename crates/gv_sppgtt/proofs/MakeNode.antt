@@ -1,27 +1,23 @@
 -- A node is made: a zero page under a new pair of level and frame.
-use Rattle.std.proofs.Common.{ℕ, zero, suc, ◌+◌, ◌*◌, ◌-◌, ◌/◌, ◌%◌, ◌^◌, ◌≤◌, ◌<◌, ◌≡◌, ◌≢◌, Bool, true, false, ◌&&◌, eqb, cond, List, Option, None, Some, length, get_or, set, replicate, get_or-set_same, get_or-set_other, is_some, refl, sym, ap, ◌∙◌, subst, arith, inl, inr, ⊎_elim, ◌⊎◌}
+use Rattle.std.proofs.Common.{ℕ, ◌-◌, ◌%◌, ◌≤◌, ◌<◌, ◌≡◌, ◌≢◌, Bool, cond, List, Option, None, Some, length, get_or, set, replicate, get_or-set_same, get_or-set_other, refl, sym, ap, ◌∙◌, subst, arith, inl, inr, ⊎_elim, ◌⊎◌}
 use Rattle.std.proofs.lemmas.Bool.{cases_eq, eq-eqb, ne_eqb}
 use Rattle.std.proofs.lemmas.List.{length-set}
 use Rattle.std.proofs.lemmas.Grind.{common_steps}
-use Rattle.gv_types.specs.Maps.{put}
 use Rattle.gv_types.specs.Memory.{zero_words, length-zero_words}
 use Rattle.gv_entry.specs.declared.process.Process.{Process}
 use Rattle.gv_entry.specs.declared.process.Process.TheVariants.{Absent, Table, Page, Bad, Large}
-use Rattle.gv_entry.specs.Tables.{names}
 use Rattle.gv_gpu.specs.Device.{Device, added}
 use Rattle.gv_guest.specs.Placed.{Placed, Hosts}
 use Rattle.gv_nodes.specs.declared.nodes.Node.{Node}
 use Rattle.gv_nodes.specs.NodeMap.{NodeMap}
-use Rattle.gv_rmap.specs.Leaves.{leaf_at}
-use Rattle.gv_rmap.specs.Chains.{ReverseMap, chain_of}
+use Rattle.gv_rmap.specs.Chains.{ReverseMap}
 use Rattle.gv_shape.specs.Shadow.{Pages, Readings, Names, Local, shadow_label, split_level}
-use Rattle.gv_shape.specs.Counts.{total, uses, maps, one_if, above, names_node}
+use Rattle.gv_shape.specs.Counts.{uses, one_if, above, names_node}
 use Rattle.gv_shape.proofs.Totals.{total-same}
 use Rattle.gv_nodes.specs.NodeOf.{node_of}
-use Rattle.gv_sppgtt.specs.Sound.{page_of_node, parents_of_node, decode, reading_at, readings_in, pages_in, parents_in, flag, Boarded, Chained, Counted, Sound, IsWhole}
-use Rattle.gv_sppgtt.specs.Grown.{Sketch, Made}
+use Rattle.gv_sppgtt.specs.Sound.{page_of_node, parents_of_node, decode, reading_at, readings_in, pages_in, parents_in, flag, Boarded, Sound, IsWhole}
+use Rattle.gv_sppgtt.specs.Grown.{Made}
 use Rattle.gv_sppgtt.proofs.Entered.{decode-kept}
-use Rattle.gv_sppgtt.proofs.PutLeaf.{not_a_frame}
 
 zero_word : (i : ℕ) → get_or zero_words i 0 ≡ 0
 unfolding zero_words

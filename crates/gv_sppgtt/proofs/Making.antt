@@ -1,19 +1,19 @@
 -- A node is made, seen by all that is known of the tables.
-use Rattle.std.proofs.Common.{List, ℕ, ◌≡◌, ◌+◌, ◌*◌, ◌/◌, ◌≤◌, ◌<◌, true, false, Some, None, [], length, get_or, set, sym, ap, ◌∙◌, subst, refl, arith, ⊎_elim}
+use Rattle.std.proofs.Common.{List, ℕ, ◌≡◌, ◌/◌, ◌≤◌, ◌<◌, true, false, Some, None, [], length, get_or, set, sym, ap, ◌∙◌, subst, arith, ⊎_elim}
 use Rattle.std.proofs.lemmas.Bool.{cases_eq, false≢true}
 use Rattle.gv_gpu.specs.Device.{Device, added}
 use Rattle.gv_gpu.specs.Part.{outside}
 use Rattle.gv_guest.specs.Placed.{Placed}
 use Rattle.gv_nodes.specs.NodeMap.{NodeMap, AreNodes, reserved}
 use Rattle.gv_shape.specs.Shadow.{Pages, shadow_label}
-use Rattle.gv_shape.specs.Counts.{uses, leaves, maps}
-use Rattle.gv_sppgtt.specs.Sound.{pages_in, parents_in, page_of_node, parents_of_node, readings_in, Pinned, IsWhole}
+use Rattle.gv_shape.specs.Counts.{leaves, maps}
+use Rattle.gv_sppgtt.specs.Sound.{pages_in, parents_in, page_of_node, parents_of_node, readings_in, IsWhole}
 use Rattle.gv_sppgtt.specs.State.{Touches, own_in, pages_of, parents_of, readings_of, sketch_of, shadow_part}
-use Rattle.gv_sppgtt.specs.Grown.{Made, count_of}
+use Rattle.gv_sppgtt.specs.Grown.{Made}
 use Rattle.gv_sppgtt.specs.Holding.{Holds, Keeps}
 use Rattle.gv_sppgtt.specs.declared.tables.Tables.{Tables}
 use Rattle.gv_sppgtt.proofs.NodePairs.{are_reserved, node_of-reserved}
-use Rattle.gv_sppgtt.proofs.SameNodes.{label-is, sound-same, pinned-same, room-same}
+use Rattle.gv_sppgtt.proofs.SameNodes.{sound-same, pinned-same, room-same}
 use Rattle.gv_sppgtt.proofs.Room.{count-made}
 use Rattle.gv_sppgtt.proofs.Outside.{stands-shadow, memory-shadow, shadow-added}
 use Rattle.gv_sppgtt.proofs.Kept.{is_table-same}

@@ -1,16 +1,14 @@
 -- What serving tables mean: they are the live tables, tell which frames are guarded, and shadow the guest's own.
-use Rattle.std.proofs.Common.{ℕ, ◌≤◌, ◌<◌, ◌≡◌, Bool, true, false, ◌||◌, List, Some, is_some, length, refl, sym, ap, ◌∙◌, subst, arith, ⊎_elim}
+use Rattle.std.proofs.Common.{ℕ, ◌≤◌, ◌≡◌, Bool, true, false, ◌||◌, Some, is_some, length, refl, sym, ap, ◌∙◌, subst, arith, ⊎_elim}
 use Rattle.std.proofs.lemmas.Bool.{cases_eq, false≢true}
 use Rattle.std.proofs.lemmas.List.{length-map}
 use Rattle.gv_entry.specs.Tables.{is_guarded}
-use Rattle.gv_gpu.specs.Device.{Device}
-use Rattle.gv_guest.specs.Placed.{Placed, memory_in}
+use Rattle.gv_guest.specs.Placed.{memory_in}
 use Rattle.gv_shape.specs.Shadow.{Local, wanted, is_live}
-use Rattle.gv_shape.specs.Shadows.{Shadows, AreLiveTables}
 use Rattle.gv_shape.proofs.Shadows.{nodes_are_the_live_tables}
 use Rattle.gv_sppgtt.specs.Sound.{flag}
 use Rattle.gv_sppgtt.specs.State.{pages_of, parents_of, readings_of, is_table}
-use Rattle.gv_sppgtt.specs.Serving.{roots_of, guarded_of, Serves}
+use Rattle.gv_sppgtt.specs.Serving.{roots_of}
 use Rattle.gv_sppgtt.specs.Laws.{ServingTablesShadow, ServingTablesAreLive, ServingTablesTell}
 use Rattle.gv_sppgtt.specs.declared.tables.Tables.{Tables}
 use Rattle.gv_sppgtt.proofs.BadEntries.{frame-words}

@@ -1,5 +1,5 @@
 -- What the calls of the nodes do to the functions from level and frame.
-use Rattle.std.proofs.Common.{ℕ, ◌+◌, ◌≡◌, ◌≢◌, Option, None, Some, refl, sym, ap, ◌∙◌, ⊎_elim}
+use Rattle.std.proofs.Common.{ℕ, ◌+◌, ◌≡◌, Option, None, Some, refl, sym, ap, ◌∙◌, ⊎_elim}
 use Rattle.std.proofs.lemmas.Bool.{cases_eq}
 use Rattle.std.specs.Option.{option_map_or}
 use Rattle.gv_nodes.specs.NodeMap.{parents_of as parents_under}

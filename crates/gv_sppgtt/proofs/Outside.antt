@@ -1,11 +1,11 @@
 -- What changes shadow pages alone leaves the guest's memory.
-use Rattle.std.proofs.Common.{ℕ, ◌≡◌, Bool, true, false, ◌&&◌, not, eqb, Option, None, Some, [], refl, ap, ◌∙◌}
-use Rattle.std.proofs.lemmas.Bool.{eq-eqb, false≢true, and_parts}
+use Rattle.std.proofs.Common.{ℕ, ◌≡◌, true, false, Option, None, Some, [], refl, ap, ◌∙◌}
+use Rattle.std.proofs.lemmas.Bool.{eq-eqb}
 use Rattle.std.proofs.lemmas.Bool.Decides.{nat_tests}
 use Rattle.std.proofs.Common.{arith}
 use Rattle.gv_types.specs.declared.ids.Label.{Label}
 use Rattle.gv_gpu.specs.Device.{Device, added, poked}
-use Rattle.gv_gpu.specs.Part.{Part, outside, Apart, frames_part, is_shadow_of, is_frame_of}
+use Rattle.gv_gpu.specs.Part.{outside, Apart, frames_part, is_shadow_of, is_frame_of}
 use Rattle.gv_gpu.specs.Change.{Leaves}
 use Rattle.gv_gpu.proofs.Changes.{leaves-outside}
 use Rattle.gv_gpu.proofs.Changed.{outside-added, outside-poked}

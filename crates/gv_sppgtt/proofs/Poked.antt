@@ -1,7 +1,7 @@
 -- One word of a node's page is written: what is known of the tables.
-use Rattle.std.proofs.Common.{ℕ, ◌+◌, ◌*◌, ◌-◌, ◌/◌, ◌%◌, ◌≤◌, ◌<◌, ◌≡◌, ◌≢◌, Bool, true, false, List, [], Some, length, get_or, refl, sym, ap, ◌∙◌, subst, arith, cond, ltb}
+use Rattle.std.proofs.Common.{ℕ, ◌+◌, ◌*◌, ◌/◌, ◌%◌, ◌≤◌, ◌<◌, ◌≡◌, Bool, true, false, List, Some, length, get_or, refl, sym, ap, ◌∙◌, subst, arith, ltb}
 use Rattle.std.proofs.lemmas.Bool.{lt-ltb}
-use Rattle.gv_types.specs.Memory.{Memory, memory_read, word_of}
+use Rattle.gv_types.specs.Memory.{Memory, memory_read}
 use Rattle.gv_types.specs.declared.event.Width.TheVariants.{Eight}
 use Rattle.gv_entry.specs.Tables.{words_of}
 use Rattle.gv_entry.specs.declared.process.Process.{Process}
@@ -10,9 +10,8 @@ use Rattle.gv_gpu.specs.Part.{outside, tables_part}
 use Rattle.gv_sppgtt.proofs.OwnPages.{own-poked, page-own}
 use Rattle.gv_guest.specs.Placed.{Placed}
 use Rattle.gv_nodes.specs.NodeMap.{NodeMap, AreNodes}
-use Rattle.gv_shape.specs.Shadow.{Pages}
-use Rattle.gv_shape.specs.Counts.{uses, leaves, maps, namings}
-use Rattle.gv_sppgtt.specs.Sound.{Sound, Pinned, Enters, pages_in}
+use Rattle.gv_shape.specs.Counts.{leaves, maps}
+use Rattle.gv_sppgtt.specs.Sound.{Enters, pages_in}
 use Rattle.gv_sppgtt.specs.Grown.{count_of}
 use Rattle.gv_sppgtt.specs.State.{own_in, own_part, is_table, pages_of, readings_of, IsSound, IsPinned, shadow_part}
 use Rattle.gv_sppgtt.specs.Holding.{Holds, Keeps}

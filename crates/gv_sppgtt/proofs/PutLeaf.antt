@@ -1,19 +1,18 @@
 -- A leaf is put into a word of a table of level 1.
-use Rattle.std.proofs.Common.{ℕ, ◌+◌, ◌*◌, ◌-◌, ◌/◌, ◌%◌, ◌^◌, ◌≤◌, ◌<◌, ◌≡◌, ◌≢◌, Bool, true, false, eqb, cond, List, Option, None, Some, length, get_or, refl, sym, ap, ◌∙◌, subst, arith, inl, inr, ◌⊎◌, ltb, ◌||◌, ⊎_elim}
+use Rattle.std.proofs.Common.{ℕ, ◌+◌, ◌*◌, ◌-◌, ◌/◌, ◌^◌, ◌≤◌, ◌<◌, ◌≡◌, ◌≢◌, Bool, true, false, eqb, cond, List, Option, None, Some, length, get_or, refl, sym, ap, ◌∙◌, subst, arith, inl, inr, ◌⊎◌, ltb, ⊎_elim}
 use Rattle.std.proofs.lemmas.Bool.{eq-eqb, true≢false, or_from, cases_lt, cases_eq, ne_eqb}
 use Rattle.gv_types.specs.declared.ids.Label.{Label}
 use Rattle.gv_entry.specs.declared.process.Process.{Process}
-use Rattle.gv_entry.specs.declared.process.Process.TheVariants.{Absent, Table, Page, Bad}
-use Rattle.gv_entry.specs.Tables.{names}
+use Rattle.gv_entry.specs.declared.process.Process.TheVariants.{Page}
 use Rattle.gv_gpu.specs.Device.{Device, poked}
 use Rattle.gv_guest.specs.Placed.{Placed, Hosts, frame_label}
 use Rattle.gv_nodes.specs.NodeMap.{NodeMap}
 use Rattle.gv_rmap.specs.Leaves.{leaf_at}
 use Rattle.gv_rmap.specs.Chains.{ReverseMap, chain_of}
-use Rattle.gv_shape.specs.Shadow.{Pages, Readings, Names, Local, shadow_label, leaf_word, has_leaves}
+use Rattle.gv_shape.specs.Shadow.{Readings, Names, shadow_label, has_leaves}
 use Rattle.gv_shape.specs.Counts.{total, uses, maps, one_if, leaves, names_node, namings, above}
 use Rattle.gv_shape.proofs.Totals.{total-at, total-bound}
-use Rattle.gv_sppgtt.specs.Sound.{decode, reading_at, readings_in, pages_in, parents_in, flag, Boarded, Chained, Counted, Pinned, Enters, Sound, IsLinked, place_leaf}
+use Rattle.gv_sppgtt.specs.Sound.{decode, reading_at, readings_in, pages_in, flag, Pinned, Enters, Sound, IsLinked, place_leaf}
 use Rattle.gv_sppgtt.proofs.Decoded.{leaf-page, decode-leaf}
 use Rattle.gv_sppgtt.proofs.Entered.{enters, local-entered, boarded-entered, uses-entered, uses-other}
 use Rattle.gv_sppgtt.proofs.Leaves.{chained-entered}

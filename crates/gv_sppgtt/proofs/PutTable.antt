@@ -1,17 +1,15 @@
 -- A table is put into a word of a table of a level above.
-use Rattle.std.proofs.Common.{ℕ, ◌+◌, ◌*◌, ◌-◌, ◌/◌, ◌%◌, ◌^◌, ◌≤◌, ◌<◌, ◌≡◌, ◌≢◌, Bool, true, false, eqb, cond, List, Option, None, Some, length, get_or, refl, sym, ap, ◌∙◌, subst, arith, inl, inr, ⊎_elim, IfSome, ltb}
-use Rattle.std.proofs.lemmas.Bool.{cases_eq, eq-eqb, ne_eqb, true≢false, cases_lt}
+use Rattle.std.proofs.Common.{ℕ, ◌+◌, ◌-◌, ◌/◌, ◌%◌, ◌≤◌, ◌<◌, ◌≡◌, Bool, true, false, eqb, cond, List, Option, None, Some, length, get_or, refl, sym, ap, ◌∙◌, subst, arith, ⊎_elim, IfSome, ltb}
+use Rattle.std.proofs.lemmas.Bool.{cases_eq, true≢false, cases_lt}
 use Rattle.gv_entry.specs.declared.process.Process.{Process}
-use Rattle.gv_entry.specs.declared.process.Process.TheVariants.{Absent, Table, Page, Bad, Large}
-use Rattle.gv_entry.specs.Tables.{names}
+use Rattle.gv_entry.specs.declared.process.Process.TheVariants.{Table, Large}
 use Rattle.gv_gpu.specs.Device.{Device, poked}
-use Rattle.gv_guest.specs.Placed.{Placed, Hosts}
+use Rattle.gv_guest.specs.Placed.{Placed}
 use Rattle.gv_nodes.specs.NodeMap.{NodeMap}
 use Rattle.gv_rmap.specs.Chains.{ReverseMap}
 use Rattle.gv_shape.specs.Shadow.{Pages, Readings, Names, table_word, has_leaves, split_word}
-use Rattle.gv_shape.specs.Counts.{uses, maps, one_if, names_node, naming, namings, above}
-use Rattle.gv_sppgtt.specs.Sound.{decode, reading_at, readings_in, pages_in, parents_in, flag, Chained, Enters, Sound, IsChild, child_entry, child_value}
-use Rattle.gv_sppgtt.proofs.Decoded.{decode-even}
+use Rattle.gv_shape.specs.Counts.{uses, one_if, names_node, namings, above}
+use Rattle.gv_sppgtt.specs.Sound.{decode, readings_in, pages_in, parents_in, flag, Chained, Enters, Sound, IsChild, child_entry, child_value}
 use Rattle.gv_sppgtt.proofs.Entered.{enters, local-entered, boarded-entered, uses-entered, uses-other, table-number, split-number}
 use Rattle.gv_shape.proofs.Levels.{low_level, high_level, above-low, above-high, naming-low, naming-high, split-back}
 use Rattle.gv_sppgtt.proofs.Words.{no_leaves, odd_table, odd_split}

@@ -1,15 +1,12 @@
 -- One word of a table changes: what it names is acquired, the word is written, and what it named is released.
-use Rattle.std.proofs.Common.{ℕ, zero, suc, ◌+◌, ◌*◌, ◌-◌, ◌≤◌, ◌<◌, ◌≡◌, ◌≢◌, Bool, true, false, ◌&&◌, eqb, cond, List, Option, None, Some, length, refl, sym, ap, ◌∙◌, subst, arith, inl, inr, ⊎_elim, ◌⊎◌}
-use Rattle.std.proofs.lemmas.Bool.{cases_eq, eqb-true, eq-eqb, ne_eqb, cases_lt}
-use Rattle.std.proofs.lemmas.Bool.Decides.{nat_tests}
+use Rattle.std.proofs.Common.{ℕ, ◌+◌, ◌*◌, ◌-◌, ◌≤◌, ◌<◌, ◌≡◌, ◌≢◌, eqb, List, Option, None, Some, refl, sym, ap, ◌∙◌, subst, arith, ⊎_elim}
+use Rattle.std.proofs.lemmas.Bool.{cases_eq, eq-eqb, ne_eqb, cases_lt}
 use Rattle.gv_types.specs.Memory.{Memory}
 use Rattle.gv_entry.specs.declared.process.Process.{Process}
-use Rattle.gv_entry.specs.declared.process.Process.TheVariants.{Absent, Table, Page, Bad}
-use Rattle.gv_entry.specs.Tables.{entry_of, names}
-use Rattle.gv_shape.specs.Shadow.{Pages, Readings, wanted}
-use Rattle.gv_shape.specs.Counts.{total, uses, maps, one_if, is_among, above, names_node, naming, rank, namings}
+use Rattle.gv_shape.specs.Shadow.{wanted}
+use Rattle.gv_shape.specs.Counts.{uses, one_if, above, names_node, naming, rank, namings}
 use Rattle.gv_sppgtt.specs.Sound.{Enters, IsBelow}
-use Rattle.gv_sppgtt.specs.Grown.{Sketch, Balanced, one_at, none_at, Kept, Growing, Dropped, Rests, Acquired, Released}
+use Rattle.gv_sppgtt.specs.Grown.{Sketch, Growing, Dropped, Rests, Acquired, Released}
 use Rattle.gv_sppgtt.proofs.Entered.{uses-entered, uses-other}
 use Rattle.gv_shape.proofs.Levels.{naming-at, rank-below}
 

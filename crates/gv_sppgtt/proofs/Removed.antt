@@ -1,16 +1,14 @@
 -- A node and its page are taken out: what is known of the tables.
-use Rattle.std.proofs.Common.{ℕ, ◌+◌, ◌*◌, ◌-◌, ◌/◌, ◌≤◌, ◌<◌, ◌≡◌, true, false, List, Option, None, Some, length, get_or, refl, sym, ap, ◌∙◌, subst, arith, ⊎_elim}
+use Rattle.std.proofs.Common.{ℕ, ◌/◌, ◌≤◌, ◌<◌, ◌≡◌, true, false, List, None, Some, length, get_or, sym, ap, ◌∙◌, arith, ⊎_elim}
 use Rattle.std.proofs.lemmas.Bool.{cases_eq, false≢true}
 use Rattle.gv_entry.specs.declared.process.Process.TheVariants.{Absent}
-use Rattle.gv_entry.specs.Tables.{names}
 use Rattle.gv_gpu.specs.Device.{Device, released}
 use Rattle.gv_gpu.specs.Part.{outside}
 use Rattle.gv_guest.specs.Placed.{Placed}
 use Rattle.gv_nodes.specs.NodeMap.{AreNodes}
-use Rattle.gv_shape.specs.Counts.{uses, leaves, maps, namings}
+use Rattle.gv_shape.specs.Counts.{leaves, maps, namings}
 use Rattle.gv_sppgtt.specs.Sound.{Sound, readings_in}
 use Rattle.gv_sppgtt.specs.State.{Touches, own_in, pages_of, parents_of, readings_of, shadow_part}
-use Rattle.gv_sppgtt.specs.Grown.{count_of}
 use Rattle.gv_sppgtt.specs.Holding.{Holds, Keeps}
 use Rattle.gv_sppgtt.specs.declared.tables.Tables.{Tables}
 use Rattle.gv_sppgtt.proofs.DropNode.{sound-gone, all-same, gone-uses, outside-gone}

@@ -1,12 +1,12 @@
 -- Where all but one word of a frame is done from a level on, the nodes from that level on are the live tables.
-use Rattle.std.proofs.Common.{ℕ, ◌+◌, ◌≤◌, ◌<◌, ◌≡◌, Bool, true, false, ◌&&◌, List, Some, None, length, refl, sym, ap, ◌∙◌, subst, arith}
+use Rattle.std.proofs.Common.{ℕ, ◌≤◌, ◌≡◌, Bool, true, false, ◌&&◌, List, Some, length, ap, arith}
 use Rattle.std.proofs.lemmas.List.{length-map}
 use Rattle.gv_gpu.specs.Device.{Device}
 use Rattle.gv_guest.specs.Placed.{Placed, memory_in}
 use Rattle.gv_shape.specs.Shadow.{is_live, split_level, is_split}
-use Rattle.gv_shape.specs.Counts.{Settled, namings}
+use Rattle.gv_shape.specs.Counts.{Settled}
 use Rattle.gv_shape.proofs.Live.{node-live, live-node, node-split, split-node}
-use Rattle.gv_sppgtt.specs.Sound.{pages_in, parents_in, reading_at}
+use Rattle.gv_sppgtt.specs.Sound.{reading_at}
 use Rattle.gv_sppgtt.specs.State.{pages_of, parents_of, readings_of, sketch_of}
 use Rattle.gv_sppgtt.specs.Grown.{Rests, Modest}
 use Rattle.gv_sppgtt.specs.Holding.{Holds}

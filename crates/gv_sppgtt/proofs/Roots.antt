@@ -1,10 +1,8 @@
 -- A word of memory changes; a root comes; a root goes.
-use Rattle.std.proofs.Common.{ℕ, ◌+◌, ◌*◌, ◌-◌, ◌≤◌, ◌<◌, ◌≡◌, ◌≢◌, Bool, true, false, not, ◌&&◌, ◌||◌, eqb, cond, List, ◌∷◌, Option, None, Some, refl, sym, ap, ◌∙◌, subst, arith, inl, inr, ⊎_elim}
+use Rattle.std.proofs.Common.{ℕ, ◌+◌, ◌≤◌, ◌≡◌, Bool, true, false, not, ◌&&◌, ◌||◌, eqb, List, ◌∷◌, Option, None, Some, refl, sym, ap, ◌∙◌, arith, ⊎_elim}
 use Rattle.std.proofs.lemmas.Bool.{cases_eq, eq-eqb, ne_eqb, eqb-true}
-use Rattle.std.proofs.lemmas.Bool.Decides.{nat_tests}
 use Rattle.gv_types.specs.Memory.{Memory}
-use Rattle.gv_entry.specs.Tables.{entry_of, names}
-use Rattle.gv_shape.specs.Counts.{uses, one_if, is_among, namings}
+use Rattle.gv_shape.specs.Counts.{one_if, is_among}
 use Rattle.gv_sppgtt.specs.Grown.{Sketch, one_at, Growing, Dropped, Rests}
 use Rattle.gv_shape.specs.Shadow.{wanted}
 

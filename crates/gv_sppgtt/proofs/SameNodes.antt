@@ -1,15 +1,14 @@
 -- What is known of the tables, when the nodes keep their pages and lose no parent.
-use Rattle.std.proofs.Common.{ℕ, ◌+◌, ◌*◌, ◌≤◌, ◌≡◌, Bool, true, List, length, sym, ap, ◌∙◌, subst, arith}
+use Rattle.std.proofs.Common.{ℕ, ◌+◌, ◌*◌, ◌≤◌, ◌≡◌, Bool, true, List, length, sym, ◌∙◌, subst, arith}
 use Rattle.gv_types.specs.declared.ids.GuestId.{GuestId}
 use Rattle.gv_types.specs.declared.ids.Label.{Label}
 use Rattle.gv_gpu.specs.Device.{Device}
 use Rattle.gv_guest.specs.Placed.{Placed}
-use Rattle.gv_nodes.specs.NodeMap.{NodeMap, AreNodes}
+use Rattle.gv_nodes.specs.NodeMap.{NodeMap}
 use Rattle.gv_rmap.specs.Chains.{ReverseMap}
-use Rattle.gv_shape.specs.Shadow.{Pages, Local, shadow_label}
+use Rattle.gv_shape.specs.Shadow.{Local, shadow_label}
 use Rattle.gv_sppgtt.specs.Sound.{Sound, Boarded, Chained, Pinned, readings_in, pages_in, parents_in, flag}
-use Rattle.gv_entry.specs.Tables.{names}
-use Rattle.gv_shape.specs.Counts.{uses, namings}
+use Rattle.gv_shape.specs.Counts.{namings}
 use Rattle.gv_sppgtt.specs.Grown.{count_of}
 
 pub label-is : (g : GuestId) (n : ℕ) → g.0 ≡ n → ◌≡◌ {A = Label} (record { guest = g; shadow = true }) (shadow_label n)

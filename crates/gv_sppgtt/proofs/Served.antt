@@ -1,5 +1,5 @@
 -- The calls: from a step that leaves nothing to do, over the telling, to tables that serve.
-use Rattle.std.proofs.Common.{ℕ, ◌+◌, ◌/◌, ◌≤◌, ◌<◌, ◌≡◌, Bool, true, false, not, ◌&&◌, ◌||◌, eqb, ltb, List, [], ◌∷◌, Option, None, Some, is_some, length, refl, sym, ap, ◌∙◌, subst, arith, ⊎_elim}
+use Rattle.std.proofs.Common.{ℕ, ◌/◌, ◌<◌, ◌≡◌, Bool, true, false, not, ◌&&◌, ◌||◌, eqb, ltb, List, [], ◌∷◌, None, is_some, length, refl, sym, ap, ◌∙◌, subst, ⊎_elim}
 use Rattle.std.specs.List.{range_with_len, filter}
 use Rattle.std.proofs.lemmas.List.{length-map}
 use Rattle.std.proofs.lemmas.Bool.{cases_eq, eq-eqb, eqb-true, ne_eqb, lt-ltb}
@@ -15,7 +15,7 @@ use Rattle.gv_sppgtt.specs.Grown.{Growing, Dropped, Rests}
 use Rattle.gv_sppgtt.specs.State.{pages_of, sketch_of, is_table}
 use Rattle.gv_sppgtt.specs.Holding.{Holds, Keeps}
 use Rattle.gv_sppgtt.specs.Telling.{Telling}
-use Rattle.gv_sppgtt.specs.Serving.{roots_of, guarded_of, Serves, ChangesTables, Tells, with_root, without_root, is_refused, ChangedAt}
+use Rattle.gv_sppgtt.specs.Serving.{roots_of, guarded_of, Serves, Tells, with_root, without_root, is_refused, ChangedAt}
 use Rattle.gv_sppgtt.specs.declared.tables.Tables.{Tables}
 use Rattle.gv_sppgtt.proofs.Roots.{rests-created, rests-destroyed, rests-changed}
 use Rattle.gv_sppgtt.proofs.Finished.{rests-good}

@@ -1,28 +1,25 @@
 -- From a step to what holds between calls: roots, and what the caller was told.
-use Rattle.std.proofs.Common.{ℕ, zero, suc, ◌+◌, ◌*◌, ◌-◌, ◌/◌, ◌≤◌, ◌<◌, ◌≡◌, ◌≢◌, Bool, true, false, not, ◌&&◌, ◌||◌, eqb, ltb, cond, List, [], ◌∷◌, Option, None, Some, is_some, length, get_or, refl, sym, ap, ◌∙◌, subst, arith, ⊎_elim}
+use Rattle.std.proofs.Common.{ℕ, zero, suc, ◌+◌, ◌-◌, ◌≤◌, ◌<◌, ◌≡◌, Bool, true, false, not, ◌&&◌, ◌||◌, eqb, ltb, cond, List, [], ◌∷◌, Option, None, Some, is_some, length, get_or, refl, sym, ap, ◌∙◌, subst, arith, ⊎_elim}
 use Rattle.std.specs.List.{list_any, range_with_len, filter}
-use Rattle.std.proofs.lemmas.List.{length-map}
-use Rattle.std.proofs.lemmas.Bool.{cases_eq, cases_lt, eqb-true, eq-eqb, ne_eqb, false_from_ne_true, lt-ltb}
+use Rattle.std.proofs.lemmas.Bool.{cases_lt, eqb-true, eq-eqb, ne_eqb, lt-ltb}
 use Rattle.std.proofs.lemmas.Bool.Decides.{nat_tests}
 use Rattle.std.proofs.lemmas.List.Folds.{list_any_at}
 use Rattle.std.proofs.lemmas.List.FromFn.{length-range_with_len, get_or-range_with_len}
 use Rattle.std.proofs.lemmas.Map.Views.{any-filter_same}
 use Rattle.gv_types.specs.Memory.{Memory}
-use Rattle.gv_entry.specs.declared.process.Process.{Process}
 use Rattle.gv_entry.specs.Entry.{process_entry}
 use Rattle.gv_entry.specs.Tables.{words_of, has_bad_entry}
 use Rattle.gv_gpu.specs.Device.{Device}
 use Rattle.gv_guest.specs.Placed.{Placed, memory_in}
-use Rattle.gv_nodes.specs.NodeMap.{NodeMap}
 use Rattle.gv_shape.specs.Shadow.{wanted}
 use Rattle.gv_shape.specs.Counts.{is_among, namings, one_if}
 use Rattle.gv_shape.proofs.Levels.{wanted-low, wanted-high}
 use Rattle.gv_sppgtt.specs.Sound.{flag, pages_in, parents_in}
-use Rattle.gv_sppgtt.specs.Grown.{Sketch, Rests}
+use Rattle.gv_sppgtt.specs.Grown.{Rests}
 use Rattle.gv_sppgtt.specs.State.{pages_of, parents_of, readings_of, sketch_of, is_table}
-use Rattle.gv_sppgtt.specs.Holding.{Holds, Keeps}
+use Rattle.gv_sppgtt.specs.Holding.{Holds}
 use Rattle.gv_sppgtt.specs.Telling.{Telling}
-use Rattle.gv_sppgtt.specs.Serving.{roots_of, guarded_of, Serves, ChangesTables, Tells, with_root, without_root, ChangedAt}
+use Rattle.gv_sppgtt.specs.Serving.{roots_of, guarded_of, Serves, Tells, without_root, ChangedAt}
 use Rattle.gv_sppgtt.specs.declared.tables.Tables.{Tables}
 use Rattle.gv_sppgtt.proofs.Resting.{rests-live, live-rests}
 use Rattle.gv_sppgtt.proofs.Finished.{rests-good}

@@ -1,15 +1,14 @@
 -- What a word of a node names, read from the word.
-use Rattle.std.proofs.Common.{ℕ, ◌+◌, ◌*◌, ◌-◌, ◌/◌, ◌%◌, ◌≤◌, ◌<◌, ◌≡◌, Bool, true, false, eqb, cond, List, Option, None, Some, length, get_or, refl, sym, ap, ◌∙◌, subst, arith, ⊎_elim}
-use Rattle.std.proofs.lemmas.Bool.{ne_eqb, true≢false, cases_lt}
+use Rattle.std.proofs.Common.{ℕ, ◌-◌, ◌/◌, ◌%◌, ◌≤◌, ◌<◌, ◌≡◌, Bool, true, false, eqb, cond, List, Some, length, get_or, refl, sym, ap, ◌∙◌, subst, arith, ⊎_elim}
+use Rattle.std.proofs.lemmas.Bool.{true≢false, cases_lt}
 use Rattle.std.proofs.lemmas.List.{get_or_default}
 use Rattle.gv_entry.specs.declared.process.Process.{Process}
 use Rattle.gv_entry.specs.declared.process.Process.TheVariants.{Absent, Table, Page, Bad, Large}
-use Rattle.gv_entry.specs.Tables.{names}
 use Rattle.gv_gpu.specs.Device.{Device}
 use Rattle.gv_guest.specs.Placed.{Placed}
 use Rattle.gv_nodes.specs.NodeMap.{NodeMap}
 use Rattle.gv_rmap.specs.Chains.{ReverseMap}
-use Rattle.gv_shape.specs.Shadow.{Names, table_word, has_leaves, split_level, Pages}
+use Rattle.gv_shape.specs.Shadow.{Names, has_leaves, split_level, Pages}
 use Rattle.gv_shape.specs.Counts.{one_if, names_node, naming, above}
 use Rattle.gv_sppgtt.specs.Sound.{decode, reading_at, readings_in, pages_in, flag, Sound, IsBelow, Boarded}
 use Rattle.gv_sppgtt.proofs.Entered.{table-number, split-number}

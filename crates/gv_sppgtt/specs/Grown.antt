@@ -1,11 +1,10 @@
 -- What a call that makes nodes does to them, and what one that drops them does.
-use Rattle.std.specs.Prelude.{ℕ, ◌+◌, ◌*◌, ◌-◌, ◌≤◌, ◌<◌, ◌≡◌, Bool, ◌&&◌, ◌==◌, is_some, List, Option, None, Some, length}
+use Rattle.std.specs.Prelude.{ℕ, ◌+◌, ◌*◌, ◌≤◌, ◌<◌, ◌≡◌, ◌&&◌, ◌==◌, is_some, List, None, Some}
 use Rattle.gv_types.specs.Memory.{Memory}
 use Rattle.gv_entry.specs.declared.process.Process.{Process}
-use Rattle.gv_entry.specs.declared.process.Process.TheVariants.{Absent, Table, Page, Bad}
-use Rattle.gv_entry.specs.Tables.{names}
+use Rattle.gv_entry.specs.declared.process.Process.TheVariants.{Absent}
 use Rattle.gv_shape.specs.Shadow.{Pages, Readings, wanted}
-use Rattle.gv_shape.specs.Counts.{total, uses, namings, names_node, above, rank, maps, one_if, is_among}
+use Rattle.gv_shape.specs.Counts.{total, namings, names_node, above, rank, one_if, is_among}
 
 -- nodes, seen as functions from level and frame
 pub record Sketch : Type 0 where

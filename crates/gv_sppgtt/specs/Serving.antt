@@ -1,5 +1,5 @@
 -- What the layer above sees of the tables, and what holds between its calls.
-use Rattle.std.specs.Prelude.{ℕ, ◌+◌, ◌*◌, ◌/◌, ◌^◌, ◌<◌, ◌≤◌, ◌≡◌, Bool, true, false, not, ◌&&◌, ◌||◌, ◌==◌, nat_lt, if◌then◌else◌, is_some, List, filter, length, slice_index}
+use Rattle.std.specs.Prelude.{ℕ, ◌+◌, ◌*◌, ◌^◌, ◌<◌, ◌≤◌, ◌≡◌, Bool, false, not, ◌&&◌, ◌||◌, ◌==◌, nat_lt, if◌then◌else◌, is_some, List, filter, length, slice_index}
 use Rattle.std.specs.List.{range_with_len}
 use Rattle.gv_types.specs.Memory.{Memory}
 use Rattle.gv_entry.specs.Tables.{words_of, has_bad_entry}

@@ -1,9 +1,7 @@
 -- How the shadow tables are held, and what always holds of them.
-use Rattle.std.specs.Prelude.{ℕ, ◌+◌, ◌*◌, ◌-◌, ◌/◌, ◌%◌, ◌^◌, ◌≤◌, ◌<◌, ◌≡◌, Bool, true, false, ◌&&◌, ◌==◌, nat_lt, if◌then◌else◌, List, Option, None, Some, length, slice_index, slice_index_or}
-use Rattle.gv_types.specs.Memory.{Memory}
+use Rattle.std.specs.Prelude.{ℕ, ◌+◌, ◌*◌, ◌/◌, ◌%◌, ◌^◌, ◌≤◌, ◌<◌, ◌≡◌, Bool, true, false, ◌==◌, nat_lt, if◌then◌else◌, List, Option, None, Some, length, slice_index, slice_index_or}
 use Rattle.gv_entry.specs.declared.process.Process.{Process}
 use Rattle.gv_entry.specs.declared.process.Process.TheVariants.{Absent, Table, Large, Page, Bad}
-use Rattle.gv_entry.specs.Tables.{names}
 use Rattle.gv_gpu.specs.Device.{Device}
 use Rattle.gv_guest.specs.Placed.{Placed}
 use Rattle.gv_nodes.specs.declared.nodes.Node.{Node}
@@ -15,8 +13,8 @@ use Rattle.gv_sppgtt.specs.declared.tables.Child.{Child}
 use Rattle.gv_sppgtt.specs.declared.tables.Word.{Word}
 use Rattle.gv_sppgtt.specs.declared.tables.Word.TheVariants.{Nothing, Leaf as LeafWord, Node as NodeWord, Refused}
 use Rattle.gv_nodes.specs.NodeOf.{node_of}
-use Rattle.gv_shape.specs.Shadow.{Pages, Readings, Names, Local, has_leaves, leaf_word, table_word, split_word}
-use Rattle.gv_shape.specs.Counts.{uses, namings, naming, above, leaves, maps, one_if}
+use Rattle.gv_shape.specs.Shadow.{Pages, Readings, Local, has_leaves, table_word, split_word}
+use Rattle.gv_shape.specs.Counts.{namings, naming, above, leaves}
 
 abbrev pub page_of_node : Option Node → Option ℕ
 page_of_node None = None

@@ -1,5 +1,5 @@
 -- The state of the tables as their code holds it.
-use Rattle.std.specs.Prelude.{ℕ, ◌+◌, ◌*◌, ◌/◌, ◌≤◌, ◌<◌, ◌≡◌, Bool, true, false, ◌||◌, is_some, List, [], ◌∷◌, flat_map, length, Option, None, Some}
+use Rattle.std.specs.Prelude.{ℕ, ◌+◌, ◌*◌, ◌/◌, ◌≤◌, ◌≡◌, Bool, true, false, ◌||◌, is_some, List, [], ◌∷◌, flat_map, length, Option, None, Some}
 use Rattle.std.specs.FinMap.{keys}
 use Rattle.gv_gpu.specs.Device.{Device}
 use Rattle.gv_guest.specs.Placed.{Placed}

@@ -1,5 +1,5 @@
 -- How far the caller was told of the frames that became tables and that no longer are.
-use Rattle.std.specs.Prelude.{ℕ, ◌≡◌, Bool, not, ◌&&◌, nat_lt, if◌then◌else◌, List, filter}
+use Rattle.std.specs.Prelude.{ℕ, ◌≡◌, not, ◌&&◌, nat_lt, if◌then◌else◌, List, filter}
 use Rattle.std.specs.List.{range_with_len}
 use Rattle.gv_gpu.specs.Device.{Device}
 use Rattle.gv_gpu.specs.Part.{outside}

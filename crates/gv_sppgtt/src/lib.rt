@@ -4,8 +4,7 @@
 //! A word of a node tells by itself what it stands for: each host page has an owner, a frame, and bits 2 and 3,
 //! which the device ignores, keep the guest's own writable bit of a leaf, and whether a table is a split one.
 //!
-//! The contract isn't final: `clear`, the bound on pokes and the law for what other layers do between calls are
-//! still to come.
+//! The contract isn't final: `clear` and the bound on pokes are still to come, and no test runs the calls yet.
 #![tactic(auto)]
 
 mod calls;
@@ -20,5 +19,8 @@ mod tell;
 mod update;
 
 pub use changed::Changed;
-pub use laws::{serving_tables_are_live, serving_tables_shadow, serving_tables_tell};
+pub use laws::{
+    serving_tables_are_live, serving_tables_keep, serving_tables_shadow, serving_tables_stay,
+    serving_tables_tell,
+};
 pub use tables::{TableFault, Tables};

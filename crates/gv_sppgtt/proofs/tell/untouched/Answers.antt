@@ -1,4 +1,4 @@
-use Rattle.std.proofs.Common.{◌≡◌, ℕ, zero, suc, Bool, false, get_or, replicate, refl}
+use Rattle.std.proofs.Common.{◌≡◌, ℕ, zero, suc, false, get_or, replicate, refl}
 use Rattle.gv_sppgtt.proofs.tell.untouched.Goals as goal
 
 none : (n i : ℕ) → get_or (replicate n false) i false ≡ false

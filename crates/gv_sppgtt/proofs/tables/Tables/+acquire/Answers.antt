@@ -1,26 +1,23 @@
 use Rattle.gv_sppgtt.specs.declared.tables.TableFault.{TableFault}
 use Rattle.gv_sppgtt.specs.declared.tables.TableFault.TheVariants.{BadEntry}
-use Rattle.std.proofs.Common.{Result, Err, ℕ, ◌≡◌, ◌+◌, ◌-◌, ◌*◌, ◌<◌, ◌≤◌, ◌^◌, None, Some, Option, length, get_or, sym, ap, ◌∙◌, subst, refl, arith, true}
-use Rattle.std.proofs.lemmas.List.{length-map}
+use Rattle.std.proofs.Common.{Result, Err, ℕ, ◌≡◌, ◌-◌, ◌<◌, ◌≤◌, None, Some, Option, length, get_or, sym, ap, ◌∙◌, subst, refl, arith, true}
 use Rattle.gv_types.specs.Memory.{Memory}
-use Rattle.gv_entry.specs.declared.process.Process.{Process}
-use Rattle.gv_entry.specs.declared.process.Process.TheVariants.{Absent, Table, Page, Bad}
-use Rattle.gv_entry.specs.Tables.{entry_of, words_of, names}
-use Rattle.gv_gpu.specs.Device.{Device}
-use Rattle.gv_guest.specs.Placed.{Placed, memory_in}
+use Rattle.gv_entry.specs.declared.process.Process.TheVariants.{Table}
+use Rattle.gv_entry.specs.Tables.{entry_of, words_of}
+use Rattle.gv_guest.specs.Placed.{memory_in}
 use Rattle.gv_nodes.specs.declared.nodes.Node.{Node}
 use Rattle.gv_nodes.specs.NodeOf.{node_of}
-use Rattle.gv_shape.specs.Counts.{uses, above, names_node, naming}
+use Rattle.gv_shape.specs.Counts.{above, names_node, naming}
 use Rattle.gv_sppgtt.specs.Sound.{page_of_node, parents_of_node, reading_at}
 use Rattle.gv_sppgtt.specs.State.{pages_of, parents_of, readings_of, sketch_of}
-use Rattle.gv_sppgtt.specs.Grown.{Growing, Filled, Made}
-use Rattle.gv_sppgtt.specs.Holding.{Holds, Keeps}
+use Rattle.gv_sppgtt.specs.Grown.{Filled, Made}
+use Rattle.gv_sppgtt.specs.Holding.{Keeps}
 use Rattle.gv_sppgtt.specs.declared.tables.Tables.{Tables}
 use Rattle.gv_sppgtt.proofs.PutLeaf.{uses-most}
 use Rattle.gv_sppgtt.proofs.Kept.{keeps_trans}
 use Rattle.gv_sppgtt.proofs.Held.{keeps-held, growing-held, holds-held}
-use Rattle.gv_sppgtt.proofs.Growing.{growing-made, growing-filled, filled-table, modest-below, room-grown}
-use Rattle.gv_sppgtt.proofs.BadEntries.{bad-here, live-child, frame-words, page-is, table-is}
+use Rattle.gv_sppgtt.proofs.Growing.{growing-made, growing-filled, filled-table, room-grown}
+use Rattle.gv_sppgtt.proofs.BadEntries.{bad-here, live-child, frame-words, table-is}
 use Rattle.gv_sppgtt.proofs.tables.Tables.+acquire.Goals as goal
 use Rattle.gv_shape.specs.Shadow.{wanted, is_live}
 use Rattle.gv_shape.proofs.Levels.{wanted-low, naming-low, above-low}

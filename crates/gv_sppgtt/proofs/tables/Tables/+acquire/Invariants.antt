@@ -1,4 +1,4 @@
-use Rattle.std.proofs.Common.{ℕ, ◌≡◌, ◌+◌, ◌*◌, ◌<◌, None, Some, length}
+use Rattle.std.proofs.Common.{◌≡◌, ◌+◌, ◌*◌, Some, length}
 use Rattle.gv_guest.specs.Placed.{memory_in}
 use Rattle.gv_sppgtt.specs.State.{pages_of, sketch_of}
 use Rattle.gv_sppgtt.specs.Grown.{Growing}

@@ -1,13 +1,8 @@
-use Rattle.std.proofs.Common.{ℕ, ◌≡◌, ◌+◌, ◌-◌, ◌*◌, ◌<◌, ◌≤◌, None, Some, length, sym, ap, ◌∙◌, subst, refl, arith}
-use Rattle.gv_entry.specs.declared.process.Process.{Process}
-use Rattle.gv_gpu.specs.Device.{Device}
-use Rattle.gv_guest.specs.Placed.{Placed}
-use Rattle.gv_shape.specs.Counts.{uses, one_if}
+use Rattle.std.proofs.Common.{◌≡◌, length, ap, ◌∙◌, subst, refl, arith}
+use Rattle.gv_shape.specs.Counts.{one_if}
 use Rattle.gv_shape.proofs.Totals.{total-same}
-use Rattle.gv_sppgtt.specs.State.{pages_of, parents_of, readings_of, sketch_of}
-use Rattle.gv_sppgtt.specs.Grown.{Dropped, Emptying, Emptied}
-use Rattle.gv_sppgtt.specs.Holding.{Holds, Keeps}
-use Rattle.gv_sppgtt.specs.declared.tables.Tables.{Tables}
+use Rattle.gv_sppgtt.specs.State.{pages_of, parents_of, sketch_of}
+use Rattle.gv_sppgtt.specs.Grown.{Emptying}
 use Rattle.gv_sppgtt.proofs.Kept.{keeps-none, keeps_trans}
 use Rattle.gv_sppgtt.proofs.Less.{keeps-less, holds-less, readings-less}
 use Rattle.gv_sppgtt.proofs.Dropping.{dropped-less, dropped-last, emptying-emptied, emptied-table}

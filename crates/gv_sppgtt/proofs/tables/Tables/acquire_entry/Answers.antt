@@ -1,5 +1,4 @@
-use Rattle.std.proofs.Common.{Result, Err, Option, ℕ, ◌≡◌, ◌+◌, ◌-◌, ◌*◌, ◌<◌, ◌≤◌, None, Some, length, get_or, sym, ap, ◌∙◌, subst, refl, arith, true}
-use Rattle.gv_entry.specs.declared.process.Process.TheVariants.{Absent, Table, Page, Bad}
+use Rattle.std.proofs.Common.{Result, Err, Option, ◌≡◌, ◌-◌, ◌<◌, length, get_or, sym, ap, ◌∙◌, subst, arith, true}
 use Rattle.gv_entry.specs.Tables.{words_of}
 use Rattle.gv_guest.specs.Placed.{memory_in}
 use Rattle.gv_sppgtt.specs.State.{sketch_of}

@@ -1,4 +1,4 @@
-use Rattle.std.proofs.Common.{Result, Err, ℕ, ◌≡◌, ◌∷◌, length, refl, sym, ap, ◌∙◌, subst}
+use Rattle.std.proofs.Common.{Result, Err, ◌≡◌, ◌∷◌, length, refl, sym, ap, ◌∙◌}
 use Rattle.std.proofs.lemmas.List.{length-map}
 use Rattle.gv_guest.specs.Placed.{memory_in}
 use Rattle.gv_entry.specs.Tables.{has_bad_entry}

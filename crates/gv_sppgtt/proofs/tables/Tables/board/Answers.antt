@@ -1,8 +1,7 @@
-use Rattle.std.proofs.Common.{ℕ, ◌≡◌, ◌+◌, sym, ap, ◌∙◌, refl, Some}
-use Rattle.gv_nodes.specs.declared.nodes.Node.{Node}
+use Rattle.std.proofs.Common.{◌+◌, ap, ◌∙◌, refl}
 use Rattle.gv_nodes.specs.NodeMap.{new_node, parents_of}
 use Rattle.gv_sppgtt.specs.Sound.{page_of_node, parents_of_node}
-use Rattle.gv_sppgtt.proofs.NodePairs.{absent-key, inserted-other, inserted-here, recounted-other, recounted-here}
+use Rattle.gv_sppgtt.proofs.NodePairs.{absent-key, inserted-other, recounted-other, recounted-here}
 use Rattle.gv_sppgtt.proofs.tables.Tables.board.Goals as goal
 
 pub insert-key-requires-clause-absent : goal.insert-key-requires-clause-absent

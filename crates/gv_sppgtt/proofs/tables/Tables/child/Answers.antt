@@ -1,4 +1,4 @@
-use Rattle.std.proofs.Common.{ℕ, ◌≡◌, ◌+◌, ◌*◌, ◌-◌, ◌/◌, ◌%◌, ◌≤◌, ◌<◌, Bool, List, Some, None, get_or, length, sym, ap, ◌∙◌, refl, arith, subst}
+use Rattle.std.proofs.Common.{◌/◌, ◌%◌, length, sym, ap, ◌∙◌, arith, subst}
 use Rattle.std.proofs.lemmas.Bool.{eq-eqb, ne_eqb}
 use Rattle.gv_shape.specs.Counts.{naming}
 use Rattle.gv_sppgtt.specs.Sound.{IsBelow}

@@ -1,4 +1,4 @@
-use Rattle.std.proofs.Common.{ℕ, ◌≡◌, ◌<◌, length, sym, ap, ◌∙◌, arith}
+use Rattle.std.proofs.Common.{length, sym, ◌∙◌, arith}
 use Rattle.gv_sppgtt.specs.Serving.{guarded_of}
 use Rattle.gv_sppgtt.proofs.Served.{with-there, good-there, tells-none}
 use Rattle.gv_sppgtt.proofs.tables.Tables.create.Goals as goal

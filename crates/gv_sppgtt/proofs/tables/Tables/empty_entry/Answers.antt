@@ -1,6 +1,4 @@
-use Rattle.std.proofs.Common.{ℕ, ◌+◌, ◌-◌, ◌≤◌, ◌≡◌, length, ap, ◌∙◌, sym, subst, refl, arith}
-use Rattle.std.proofs.lemmas.Bool.{eq-eqb}
-use Rattle.gv_entry.specs.Tables.{names}
+use Rattle.std.proofs.Common.{◌+◌, ◌≤◌, ◌≡◌, length, ap, ◌∙◌, sym, subst, arith}
 use Rattle.gv_shape.specs.Counts.{uses, one_if, names_node}
 use Rattle.gv_sppgtt.specs.State.{readings_of, parents_of}
 use Rattle.gv_sppgtt.proofs.Entered.{uses-entered}

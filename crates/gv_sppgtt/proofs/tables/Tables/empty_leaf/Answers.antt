@@ -1,9 +1,7 @@
-use Rattle.std.proofs.Common.{ℕ, ◌≡◌, Some, None, length, get_or, ap, ◌∙◌, sym}
-use Rattle.gv_entry.specs.Tables.{names}
+use Rattle.std.proofs.Common.{length, get_or, ap, ◌∙◌}
 use Rattle.gv_shape.specs.Counts.{one_if, names_node}
 use Rattle.gv_sppgtt.specs.Sound.{pages_in, parents_in, reading_at}
 use Rattle.gv_sppgtt.specs.State.{sketch_of}
-use Rattle.gv_sppgtt.specs.declared.tables.Tables.{Tables}
 use Rattle.gv_sppgtt.proofs.Poked.{holds-poked, keeps-poked}
 use Rattle.gv_sppgtt.proofs.Dropping.{emptied-leaf}
 use Rattle.gv_sppgtt.proofs.Words.{leaf-names}

@@ -1,8 +1,7 @@
-use Rattle.std.proofs.Common.{ℕ, ◌≡◌, Some, length, ap, ◌∙◌, sym}
+use Rattle.std.proofs.Common.{length, ap}
 use Rattle.gv_guest.specs.Placed.{memory_in}
 use Rattle.gv_sppgtt.specs.Sound.{pages_in, parents_in}
 use Rattle.gv_sppgtt.specs.State.{sketch_of}
-use Rattle.gv_sppgtt.specs.declared.tables.Tables.{Tables}
 use Rattle.gv_sppgtt.proofs.Poked.{holds-poked, keeps-poked}
 use Rattle.gv_sppgtt.proofs.Growing.{filled-leaf}
 use Rattle.gv_sppgtt.proofs.tables.Tables.fill_leaf.Goals as goal

@@ -1,5 +1,4 @@
-use Rattle.std.proofs.Common.{ℕ, ◌≡◌, Some, ap, ◌∙◌, sym}
-use Rattle.gv_entry.specs.declared.process.Process.TheVariants.{Table}
+use Rattle.std.proofs.Common.{ap}
 use Rattle.gv_sppgtt.specs.declared.tables.Tables.{Tables}
 use Rattle.gv_sppgtt.proofs.Poked.{leaves-above, holds-poked, keeps-poked, pinned-above}
 use Rattle.gv_sppgtt.proofs.tables.Tables.fill_table.Goals as goal

@@ -5,7 +5,7 @@ use Rattle.gv_rmap.specs.declared.leaf.Leaf.{Leaf}
 use Rattle.gv_rmap.specs.Leaves.{leaf_at, key, HasEachOnce}
 use Rattle.gv_rmap.specs.Chains.{chain_of}
 use Rattle.gv_sppgtt.proofs.Outside.{memory-shadow}
-use Rattle.std.proofs.Common.{◌≡◌, ◌<◌, ◌∷◌, [], List, Option, None, Some, length, sym, ap, ◌∙◌, refl, arith, subst}
+use Rattle.std.proofs.Common.{◌≡◌, ◌<◌, List, Option, None, Some, sym, ◌∙◌, refl, subst}
 use Rattle.gv_sppgtt.proofs.Flips.{Flipping, known, flip-step, flip-holds}
 use Rattle.gv_sppgtt.proofs.tables.Tables.flip.Goals as goal
 

@@ -1,4 +1,3 @@
-use Rattle.std.proofs.Common.{◌≡◌}
 use Rattle.gv_sppgtt.proofs.Flips.{Flipping}
 use Rattle.gv_sppgtt.proofs.tables.Tables.flip.Given as goal
 

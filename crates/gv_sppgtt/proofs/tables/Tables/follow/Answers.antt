@@ -1,8 +1,6 @@
-use Rattle.std.proofs.Common.{Result, Err, ℕ, ◌≡◌, ◌≤◌, List, length, refl, sym, ap, ◌∙◌}
+use Rattle.std.proofs.Common.{Result, Err, ◌≡◌, refl, sym, ap, ◌∙◌}
 use Rattle.gv_guest.specs.Placed.{memory_in}
 use Rattle.gv_entry.specs.Tables.{has_bad_entry}
-use Rattle.gv_sppgtt.specs.Grown.{Rests}
-use Rattle.gv_sppgtt.specs.State.{sketch_of}
 use Rattle.gv_sppgtt.specs.Serving.{roots_of}
 use Rattle.gv_sppgtt.specs.declared.tables.TableFault.{TableFault}
 use Rattle.gv_sppgtt.specs.declared.tables.TableFault.TheVariants.{BadEntry}

@@ -1,4 +1,4 @@
-use Rattle.std.proofs.Common.{ℕ, ◌≡◌, is_some, sym, ap, ◌∙◌}
+use Rattle.std.proofs.Common.{is_some, sym, ap}
 use Rattle.gv_sppgtt.specs.Sound.{page_of_node}
 use Rattle.gv_nodes.proofs.NodeOf.{node_of-is}
 use Rattle.gv_sppgtt.proofs.NodePairs.{key-absent}

@@ -1,4 +1,4 @@
-use Rattle.std.proofs.Common.{ℕ, ◌≡◌, ◌+◌, ◌-◌, ◌<◌, ◌^◌, Some, None, sym, ap, ◌∙◌, refl, arith, subst}
+use Rattle.std.proofs.Common.{◌-◌, ◌<◌, ◌^◌, sym, refl, subst}
 use Rattle.gv_sppgtt.proofs.NodePairs.{key-absent, key-parents, more-there, more-here, more-parents, more-pages}
 use Rattle.gv_sppgtt.proofs.tables.Tables.hold.Goals as goal
 

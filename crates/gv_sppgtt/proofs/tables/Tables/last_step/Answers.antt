@@ -1,4 +1,4 @@
-use Rattle.std.proofs.Common.{ℕ, ◌≡◌, ◌≤◌, ◌<◌, length, sym, ap, ◌∙◌, subst, refl, arith}
+use Rattle.std.proofs.Common.{◌<◌, length, sym, subst, arith}
 use Rattle.gv_guest.specs.Placed.{memory_in}
 use Rattle.gv_sppgtt.specs.State.{sketch_of}
 use Rattle.gv_sppgtt.proofs.Relinked.{rests-skipped}

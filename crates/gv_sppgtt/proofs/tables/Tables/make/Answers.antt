@@ -1,19 +1,9 @@
-use Rattle.std.proofs.Common.{List, ℕ, ◌≡◌, ◌+◌, ◌*◌, ◌≤◌, ◌<◌, Some, None, length, sym, ap, ◌∙◌, subst, refl, arith}
-use Rattle.gv_gpu.specs.Device.{Device, added}
-use Rattle.gv_gpu.specs.Part.{outside}
-use Rattle.gv_nodes.specs.NodeMap.{NodeMap, reserved}
-use Rattle.gv_shape.specs.Shadow.{Pages, shadow_label}
-use Rattle.gv_sppgtt.specs.Sound.{pages_in, parents_in, page_of_node, parents_of_node}
-use Rattle.gv_sppgtt.specs.State.{pages_of, shadow_part}
-use Rattle.gv_guest.specs.Placed.{Placed}
-use Rattle.gv_sppgtt.specs.Grown.{count_of}
-use Rattle.gv_sppgtt.specs.Holding.{Holds, Keeps}
-use Rattle.gv_sppgtt.specs.declared.tables.Tables.{Tables}
-use Rattle.gv_sppgtt.proofs.MakeNode.{made-sketch, sound-made, made-uses}
-use Rattle.gv_sppgtt.proofs.NodePairs.{are_reserved, node_of-reserved}
-use Rattle.gv_sppgtt.proofs.SameNodes.{label-is, sound-same, pinned-same, room-same}
-use Rattle.gv_sppgtt.proofs.Room.{count-most, count-made}
-use Rattle.gv_sppgtt.proofs.Outside.{stands-shadow, memory-shadow, shadow-added}
+use Rattle.std.proofs.Common.{length, ap, ◌∙◌, refl, arith}
+use Rattle.gv_shape.specs.Shadow.{Pages}
+use Rattle.gv_sppgtt.specs.State.{pages_of}
+use Rattle.gv_sppgtt.proofs.NodePairs.{are_reserved}
+use Rattle.gv_sppgtt.proofs.SameNodes.{label-is}
+use Rattle.gv_sppgtt.proofs.Room.{count-most}
 use Rattle.gv_sppgtt.proofs.Kept.{keeps-nodes}
 use Rattle.gv_sppgtt.proofs.Making.{same-pages, holds-reserved, all-made, holds-made, keeps-made}
 use Rattle.gv_sppgtt.proofs.tables.Tables.make.Goals as goal

@@ -1,5 +1,4 @@
-use Rattle.std.proofs.Common.{ℕ, ◌≡◌, length, replicate, rules, refl, sym, ap, ◌∙◌}
-use Rattle.std.proofs.lemmas.List.{length-replicate}
+use Rattle.std.proofs.Common.{refl, sym, ◌∙◌}
 use Rattle.gv_sppgtt.proofs.Fresh.{fresh-serves}
 use Rattle.gv_sppgtt.proofs.tables.Tables.new.Goals as goal
 

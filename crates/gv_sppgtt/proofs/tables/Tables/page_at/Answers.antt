@@ -1,5 +1,4 @@
-use Rattle.std.proofs.Common.{ℕ, ◌≡◌, Some, None, sym, ap, ◌∙◌}
-use Rattle.gv_nodes.specs.declared.nodes.Node.{Node}
+use Rattle.std.proofs.Common.{◌≡◌, Some, sym, ap, ◌∙◌}
 use Rattle.gv_sppgtt.specs.Sound.{page_of_node}
 use Rattle.gv_sppgtt.proofs.NodePairs.{key-absent}
 use Rattle.gv_nodes.proofs.NodeOf.{node_of-is}

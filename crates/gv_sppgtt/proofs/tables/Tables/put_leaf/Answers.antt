@@ -1,10 +1,9 @@
-use Rattle.std.proofs.Common.{ℕ, ◌+◌, ◌*◌, ◌^◌, ◌≡◌, ◌<◌, ◌≤◌, Bool, List, length, get_or, eqb, cond, None, sym, ap, ◌∙◌, subst, arith, Option, Some, true, refl}
+use Rattle.std.proofs.Common.{ℕ, ◌+◌, ◌*◌, ◌^◌, ◌≡◌, Bool, get_or, eqb, cond, None, sym, ap, ◌∙◌, arith, Option, Some, true, refl}
 use Rattle.gv_entry.specs.declared.process.Process.{Process}
-use Rattle.gv_gpu.specs.Device.{Device, poked}
 use Rattle.gv_rmap.specs.Leaves.{leaf_at}
 use Rattle.gv_rmap.specs.Chains.{ReverseMap, chain_of}
 use Rattle.gv_shape.specs.Counts.{maps, one_if, names_node}
-use Rattle.gv_sppgtt.specs.Sound.{decode, leaf_entry, place_leaf, reading_at, Sound, Enters, Pinned, readings_in, pages_in, flag}
+use Rattle.gv_sppgtt.specs.Sound.{decode, leaf_entry, place_leaf, reading_at, pages_in, flag}
 use Rattle.gv_sppgtt.proofs.PutLeaf.{leaf-known, pins-most, leaf-enters, leaf-sound, leaf-exact, leaf-pinned, nested}
 use Rattle.gv_sppgtt.proofs.tables.Tables.put_leaf.Goals as goal
 use Rattle.gv_shape.specs.Shadow.{has_leaves, Names, Pages}

@@ -1,6 +1,5 @@
-use Rattle.std.proofs.Common.{ℕ, ◌≡◌, ap, ◌∙◌, sym}
 use Rattle.gv_sppgtt.specs.Sound.{child_entry, child_value}
-use Rattle.gv_sppgtt.proofs.PutTable.{table-enters, table-sound, table-form, table-stands_for, table-below}
+use Rattle.gv_sppgtt.proofs.PutTable.{table-enters, table-sound, table-form, table-stands_for}
 use Rattle.gv_sppgtt.proofs.tables.Tables.put_table.Goals as goal
 
 pub returns-clause-sound : goal.returns-clause-sound

@@ -1,12 +1,11 @@
-use Rattle.std.proofs.Common.{ℕ, ◌≡◌, ◌-◌, ◌≤◌, Option, None, Some, IfSome, length, sym, ap, ◌∙◌, refl, arith}
+use Rattle.std.proofs.Common.{ℕ, ◌≡◌, ◌≤◌, Option, None, Some, IfSome, length, sym, ap, ◌∙◌, refl, arith}
 use Rattle.gv_entry.specs.declared.process.Process.{Process}
 use Rattle.gv_gpu.specs.Device.{Device, counted}
 use Rattle.gv_sppgtt.specs.declared.tables.Tables.{Tables}
 use Rattle.gv_sppgtt.proofs.Words.{named-there}
-use Rattle.gv_entry.specs.declared.process.Process.TheVariants.{Absent, Table}
-use Rattle.gv_entry.specs.Tables.{names}
+use Rattle.gv_entry.specs.declared.process.Process.TheVariants.{Absent}
 use Rattle.gv_guest.specs.Placed.{memory_in}
-use Rattle.gv_shape.specs.Counts.{one_if, naming, above}
+use Rattle.gv_shape.specs.Counts.{naming, above}
 use Rattle.gv_sppgtt.specs.Sound.{child_entry, IsChild}
 use Rattle.gv_sppgtt.specs.State.{pages_of, parents_of, readings_of, sketch_of}
 use Rattle.gv_sppgtt.proofs.Relinked.{released-table, released-none, rests-relinked, acquired-above}

@@ -1,9 +1,8 @@
-use Rattle.std.proofs.Common.{ℕ, ◌≡◌, Some, None, length, get_or, sym, ap, ◌∙◌, refl}
+use Rattle.std.proofs.Common.{ℕ, length, get_or, sym, ap, ◌∙◌, refl}
 use Rattle.gv_entry.specs.declared.process.Process.TheVariants.{Absent, Page}
-use Rattle.gv_entry.specs.Tables.{names}
 use Rattle.gv_guest.specs.Placed.{memory_in}
 use Rattle.gv_shape.specs.Counts.{one_if, names_node}
-use Rattle.gv_sppgtt.specs.Sound.{leaf_entry, pages_in, parents_in, decode, reading_at}
+use Rattle.gv_sppgtt.specs.Sound.{pages_in, parents_in, reading_at}
 use Rattle.gv_sppgtt.specs.State.{sketch_of, readings_of}
 use Rattle.gv_sppgtt.proofs.Relinked.{acquired-none, released-none, rests-relinked}
 use Rattle.gv_sppgtt.proofs.Words.{leaf-names}

@@ -1,4 +1,3 @@
-use Rattle.std.proofs.Common.{ℕ, ◌≡◌, ap}
 use Rattle.gv_sppgtt.proofs.Removed.{gone-words, holds-gone, keeps-gone}
 use Rattle.gv_sppgtt.proofs.tables.Tables.remove.Goals as goal
 

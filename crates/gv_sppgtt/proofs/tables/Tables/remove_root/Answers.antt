@@ -1,4 +1,4 @@
-use Rattle.std.proofs.Common.{ℕ, ◌≡◌, ◌<◌, ltb, is_some, List, length, refl, sym, ap, ◌∙◌, subst}
+use Rattle.std.proofs.Common.{◌<◌, ltb, is_some, refl, sym, ◌∙◌, subst}
 use Rattle.std.proofs.lemmas.Bool.{ltb-true, and_parts}
 use Rattle.gv_sppgtt.specs.State.{pages_of}
 use Rattle.gv_sppgtt.specs.Serving.{roots_of, without_root}

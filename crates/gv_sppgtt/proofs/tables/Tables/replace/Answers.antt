@@ -1,11 +1,8 @@
-use Rattle.std.proofs.Common.{ℕ, ◌+◌, ◌-◌, ◌≤◌, ◌≡◌, length, ap, ◌∙◌, sym, subst, refl, arith}
-use Rattle.std.proofs.lemmas.Bool.{eq-eqb}
-use Rattle.gv_entry.specs.Tables.{names}
+use Rattle.std.proofs.Common.{◌+◌, ◌≤◌, ◌≡◌, length, ap, ◌∙◌, sym, subst, arith}
 use Rattle.gv_shape.specs.Counts.{uses, one_if, names_node}
 use Rattle.gv_sppgtt.specs.Sound.{child_entry}
 use Rattle.gv_sppgtt.specs.State.{readings_of, parents_of}
 use Rattle.gv_sppgtt.proofs.Entered.{uses-entered}
-use Rattle.gv_entry.specs.declared.process.Process.TheVariants.{Absent}
 use Rattle.gv_sppgtt.specs.declared.tables.Tables.{Tables}
 use Rattle.gv_sppgtt.proofs.Poked.{leaves-above, holds-poked, keeps-poked, pinned-above}
 use Rattle.gv_sppgtt.proofs.tables.Tables.replace.Goals as goal

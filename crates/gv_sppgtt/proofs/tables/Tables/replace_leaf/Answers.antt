@@ -1,4 +1,3 @@
-use Rattle.std.proofs.Common.{ℕ, ◌≡◌}
 use Rattle.gv_sppgtt.proofs.Poked.{keeps-poked}
 use Rattle.gv_sppgtt.proofs.tables.Tables.replace_leaf.Goals as goal
 

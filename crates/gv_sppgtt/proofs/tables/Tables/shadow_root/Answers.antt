@@ -1,4 +1,4 @@
-use Rattle.std.proofs.Common.{ℕ, ◌≡◌, ◌<◌, Bool, true, false, ◌&&◌, ltb, Option, Some, None, is_some, refl, sym, ap, ◌∙◌}
+use Rattle.std.proofs.Common.{ltb, is_some, sym, ap, ◌∙◌}
 use Rattle.std.proofs.lemmas.Bool.{ltb-true, and_parts, false≢true}
 use Rattle.gv_sppgtt.specs.Sound.{page_of_node}
 use Rattle.gv_sppgtt.specs.State.{pages_of}

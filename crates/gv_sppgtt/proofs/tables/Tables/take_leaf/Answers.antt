@@ -1,5 +1,4 @@
-use Rattle.std.proofs.Common.{◌≡◌, ℕ, ◌+◌, ◌/◌, ◌%◌, eqb, get_or, ap, ◌∙◌, subst, sym}
-use Rattle.gv_shape.specs.Counts.{maps, one_if}
+use Rattle.std.proofs.Common.{◌/◌, ◌%◌, eqb}
 use Rattle.gv_sppgtt.proofs.Decoded.{one_less}
 use Rattle.gv_sppgtt.proofs.tables.Tables.take_leaf.Goals as goal
 

@@ -1,4 +1,4 @@
-use Rattle.std.proofs.Common.{◌≡◌, ◌*◌, ℕ, min, length}
+use Rattle.std.proofs.Common.{◌*◌, min, length}
 use Rattle.gv_sppgtt.specs.Holding.{Holds}
 use Rattle.gv_sppgtt.specs.Serving.{ChangesTables}
 use Rattle.gv_sppgtt.specs.Telling.{Telling}

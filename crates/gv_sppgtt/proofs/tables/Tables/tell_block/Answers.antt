@@ -1,9 +1,7 @@
-use Rattle.std.proofs.Common.{◌≡◌, ◌*◌, ◌+◌, ◌/◌, ℕ, min, false, length, subst, sym, ap, ◌∙◌, arith}
-use Rattle.gv_gpu.specs.Device.{Device}
+use Rattle.std.proofs.Common.{length, subst, arith}
 use Rattle.gv_sppgtt.proofs.Changes.{changes-none, changes_trans}
 use Rattle.gv_sppgtt.proofs.Telling.{telling-block}
 use Rattle.gv_sppgtt.specs.Telling.{Telling}
-use Rattle.gv_sppgtt.specs.declared.tables.Tables.{Tables}
 use Rattle.gv_sppgtt.proofs.tables.Tables.tell_block.Goals as goal
 
 pub loop-frame-init : goal.loop-frame-init

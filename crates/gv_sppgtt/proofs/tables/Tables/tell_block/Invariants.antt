@@ -1,4 +1,3 @@
-use Rattle.std.proofs.Common.{◌≡◌, ℕ, length}
 use Rattle.gv_gpu.specs.Device.{Device}
 use Rattle.gv_sppgtt.specs.Holding.{Holds}
 use Rattle.gv_sppgtt.specs.Serving.{ChangesTables}

@@ -1,5 +1,5 @@
 use mathlib.Core.Bool.{beq}
-use Rattle.std.proofs.Common.{◌≡◌, ◌<◌, ℕ, Bool, true, false, List, length, get_or, refl, sym, ap, ◌∙◌, subst}
+use Rattle.std.proofs.Common.{◌≡◌, ◌<◌, Bool, true, false, length, get_or, refl, sym, ap, ◌∙◌, subst}
 use Rattle.std.proofs.lemmas.List.{get_or_default}
 use Rattle.gv_nodes.specs.NodeMap.{NodeMap}
 use Rattle.gv_sppgtt.specs.Sound.{pages_in}

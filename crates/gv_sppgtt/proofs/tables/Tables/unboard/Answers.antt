@@ -1,7 +1,7 @@
-use Rattle.std.proofs.Common.{ℕ, ◌≡◌, Some, None, sym, ap, ◌∙◌, refl, ⊎_elim}
+use Rattle.std.proofs.Common.{◌≡◌, Some, None, sym, ap, ◌∙◌, ⊎_elim}
 use Rattle.std.proofs.lemmas.Bool.{cases_eq}
-use Rattle.gv_sppgtt.specs.Sound.{page_of_node, parents_of_node, pages_in, parents_in}
-use Rattle.gv_sppgtt.proofs.NodePairs.{key-absent, key-parents, removed-other, removed-here, none-parents}
+use Rattle.gv_sppgtt.specs.Sound.{page_of_node, parents_of_node, parents_in}
+use Rattle.gv_sppgtt.proofs.NodePairs.{key-absent, key-parents, removed-other, removed-here}
 use Rattle.gv_sppgtt.proofs.tables.Tables.unboard.Goals as goal
 
 pub unreachable-requires : goal.unreachable-requires

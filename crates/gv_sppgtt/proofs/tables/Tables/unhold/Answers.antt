@@ -1,4 +1,4 @@
-use Rattle.std.proofs.Common.{ℕ, ◌≡◌, ◌+◌, ◌-◌, ◌≤◌, Some, None, sym, ap, ◌∙◌, refl, arith, subst, Bool, true, false, cond, Option, MatchOption, ⊎_elim}
+use Rattle.std.proofs.Common.{ℕ, ◌≡◌, ◌-◌, ◌≤◌, Some, sym, ◌∙◌, refl, arith, subst, Bool, true, false, Option, MatchOption, ⊎_elim}
 use Rattle.std.proofs.lemmas.Bool.{cases_lt, false≢true}
 use Rattle.std.specs.Bool.{then_some}
 use Rattle.gv_sppgtt.specs.Sound.{pages_in, parents_in}

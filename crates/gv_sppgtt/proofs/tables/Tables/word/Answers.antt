@@ -1,4 +1,4 @@
-use Rattle.std.proofs.Common.{ℕ, ◌≡◌, ◌+◌, ◌<◌, ◌≤◌, get_or, length, sym, ap, ◌∙◌, subst}
+use Rattle.std.proofs.Common.{◌≡◌, ◌+◌, ◌<◌, get_or, length, sym, subst}
 use Rattle.std.proofs.lemmas.List.{length-map}
 use Rattle.gv_entry.specs.Tables.{words_of}
 use Rattle.gv_guest.specs.Placed.{memory_in}
