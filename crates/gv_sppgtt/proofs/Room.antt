@@ -61,7 +61,7 @@ module _ (pages : Pages) (level frame : ℕ) (absent : pages level frame ≡ Non
       (λ many.
       let here = at_is many in
       let first = total-bound frames 4 (nodes_of pages) (four_most pages) in
-      let bits : splits_of pages at + 1 ≤ 2 = subst (λ n. one_if (is_some (pages 5 n)) + one_if (is_some (pages 6 n)) + 1 ≤ 2) (sym place.0) (let a = bit_most 5 in let b = bit_most 6 in let w = which_split many in omega arith) in
+      let bits : splits_of pages at + 1 ≤ 2 = subst (λ n. one_if (is_some (pages 5 n)) + one_if (is_some (pages 6 n)) + 1 ≤ 2) (sym here.0) (let a = bit_most 5 in let b = bit_most 6 in let w = which_split many in omega arith) in
       let second = total-below 32 at 2 (splits_of pages) here.1 bits (two_most pages) in
       omega arith)
       (cases_lt level 5)
@@ -93,8 +93,8 @@ module _ (pages : Pages) (level frame : ℕ) (absent : pages level frame ≡ Non
         (λ many.
         let here = at_is many in
         let rest = total-same frames (nodes_of made) (nodes_of pages) (λ j b. λ i. same_at 1 j (λ e _. let x = e in omega arith) i + same_at 2 j (λ e _. let x = e in omega arith) i + same_at 3 j (λ e _. let x = e in omega arith) i + same_at 4 j (λ e _. let x = e in omega arith) i) in
-        let change = total-change 32 at (splits_of made) (splits_of pages) here.1 (λ j b other. λ i. same_at 5 (j * 512) (λ _ e. other (let x = e in let y = place.0 in omega arith)) i + same_at 6 (j * 512) (λ _ e. other (let x = e in let y = place.0 in omega arith)) i) in
+        let change = total-change 32 at (splits_of made) (splits_of pages) here.1 (λ j b other. λ i. same_at 5 (j * 512) (λ _ e. other (let x = e in let y = here.0 in omega arith)) i + same_at 6 (j * 512) (λ _ e. other (let x = e in let y = here.0 in omega arith)) i) in
         let bits : splits_of made at ≡ splits_of pages at + 1 =
-        subst (λ n. one_if (is_some (made 5 n)) + one_if (is_some (made 6 n)) ≡ one_if (is_some (pages 5 n)) + one_if (is_some (pages 6 n)) + 1) (sym place.0) (let a = bit 5 in let b = bit 6 in let w = which_split many in omega arith) in
+        subst (λ n. one_if (is_some (made 5 n)) + one_if (is_some (made 6 n)) ≡ one_if (is_some (pages 5 n)) + one_if (is_some (pages 6 n)) + 1) (sym here.0) (let a = bit 5 in let b = bit 6 in let w = which_split many in omega arith) in
         omega arith)
         (cases_lt level 5)
