@@ -2,9 +2,9 @@ ghost use Rattle.std.specs.Prelude.{◌≡◌, ◌<◌, true, IsSome, length};
 ghost use Rattle.gv_gpu.specs.Part.{Part, outside};
 ghost use Rattle.gv_sctx.specs.Image.{page_dword, dword_poked, dwords_poked, image_fields, AreDwords, saved_in};
 
-use gv_types::{half, with_half};
 use gv_ctx::Saved;
 use gv_gpu::Gpu;
+use gv_types::{half, with_half};
 
 /// Ring control: enabled, sixteen pages.
 const CONTROL: u32 = 0xf001;
