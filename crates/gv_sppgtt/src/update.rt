@@ -20,7 +20,7 @@ impl Tables {
     pub(crate) fn page_at(&self, frame: u32, level: u8) -> Option<u64>
         requires frame { frame < self.now.nodes.frames }
         requires low { 1 ≤ level }
-        requires high { level ≤ 4 }
+        requires high { level ≤ 6 }
         requires nodes { AreNodes self.now.nodes }
         ensures some { IfSome result (λ page. pages_of self.now level frame ≡ Some page) }
         ensures none { IfNone result (pages_of self.now level frame ≡ None) }
