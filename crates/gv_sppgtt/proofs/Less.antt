@@ -1,4 +1,4 @@
--- A node lost a parent that no word names, and nothing else changed.
+-- A node lost parents that no word names, and nothing else changed.
 use Rattle.std.proofs.Common.{ℕ, ◌+◌, ◌≤◌, ◌≡◌, List, length, sym, ap, ◌∙◌, subst, arith, ⊎_elim}
 use Rattle.std.proofs.lemmas.Bool.{cases_eq}
 use Rattle.gv_gpu.specs.Device.{Device}
@@ -13,30 +13,18 @@ use Rattle.gv_sppgtt.specs.declared.tables.Tables.{Tables}
 use Rattle.gv_sppgtt.proofs.Kept.{keeps-nodes}
 use Rattle.gv_sppgtt.proofs.SameNodes.{pinned-same, room-same}
 
-module _ (d : Device) (placed : Placed) (t u : Tables) (pins : List ℕ) (level frame : ℕ) (h : Holds d placed t pins)
-    (held : namings (length placed.pages) (readings_of d t) level frame + 1 ≤ parents_of t level frame)
-    (pages : (k f : ℕ) → pages_of u k f ≡ pages_of t k f) (here : parents_of u level frame + 1 ≡ parents_of t level frame)
-    (others : (k f : ℕ) → (k ≡ level → f ≡ frame → ⊥) → parents_of u k f ≡ parents_of t k f)
+module _ (d : Device) (placed : Placed) (t u : Tables) (pins : List ℕ) (h : Holds d placed t pins)
+    (pages : (k f : ℕ) → pages_of u k f ≡ pages_of t k f)
+    (enough : (k f : ℕ) → 1 ≤ k → namings (length placed.pages) (readings_of d t) k f ≤ parents_of u k f)
     (nodes : AreNodes u.nodes) (frames : u.nodes.frames ≡ t.nodes.frames) (owners : u.owners ≡ t.owners) (chains : u.chains ≡ t.chains) (told : u.told ≡ t.told) (guest : u.guest ≡ t.guest) where
   same_pages : pages_in u.nodes ≡ pages_in t.nodes
   same_pages = λ i k f. pages k f i
 
-  pub readings-less : (k f i : ℕ) → readings_of d u k f i ≡ readings_of d t k f i
-  readings-less k f i = λ j. readings_in d.words (owners j).items (same_pages j) k f i
+  pub readings-fewer : (k f i : ℕ) → readings_of d u k f i ≡ readings_of d t k f i
+  readings-fewer k f i = λ j. readings_in d.words (owners j).items (same_pages j) k f i
 
-  enough : (k f : ℕ) → 1 ≤ k → namings (length placed.pages) (readings_of d t) k f ≤ parents_of u k f
-  enough k f one =
-      let c = h.sound.counted k f one in
-      ⊎_elim (λ a. ⊎_elim
-      (λ b.
-      let x : namings (length placed.pages) (readings_of d t) k f ≡ namings (length placed.pages) (readings_of d t) level frame = ap (λ z. namings (length placed.pages) (readings_of d t) z f) a ∙ ap (λ z. namings (length placed.pages) (readings_of d t) level z) b in
-      let y : parents_of u k f ≡ parents_of u level frame = ap (λ z. parents_of u z f) a ∙ ap (parents_of u level) b in
-      omega arith)
-      (λ b. let o = others k f (λ _ e. b e) in omega arith) (cases_eq f frame))
-      (λ a. let o = others k f (λ e _. a e) in omega arith) (cases_eq k level)
-
-  pub holds-less : Holds d placed u pins
-  holds-less = record {
+  pub holds-fewer : Holds d placed u pins
+  holds-fewer = record {
     stands = h.stands;
     sound = rw (owners, chains, told) (record {
       frames = frames ∙ h.sound.frames;
@@ -55,5 +43,31 @@ module _ (d : Device) (placed : Placed) (t u : Tables) (pins : List ℕ) (level 
     room = room-same d placed t.nodes u.nodes t.chains t.owners.items t.told.items frames same_pages h.room;
   }
 
+  pub keeps-fewer : u.touched ≡ t.touched → Keeps placed d d t u pins pins
+  keeps-fewer touched = keeps-nodes placed d t u pins h.nodes nodes pages owners guest told touched
+
+-- it lost one of them
+module _ (d : Device) (placed : Placed) (t u : Tables) (pins : List ℕ) (level frame : ℕ) (h : Holds d placed t pins)
+    (held : namings (length placed.pages) (readings_of d t) level frame + 1 ≤ parents_of t level frame)
+    (pages : (k f : ℕ) → pages_of u k f ≡ pages_of t k f) (here : parents_of u level frame + 1 ≡ parents_of t level frame)
+    (others : (k f : ℕ) → (k ≡ level → f ≡ frame → ⊥) → parents_of u k f ≡ parents_of t k f)
+    (nodes : AreNodes u.nodes) (frames : u.nodes.frames ≡ t.nodes.frames) (owners : u.owners ≡ t.owners) (chains : u.chains ≡ t.chains) (told : u.told ≡ t.told) (guest : u.guest ≡ t.guest) where
+  still_enough : (k f : ℕ) → 1 ≤ k → namings (length placed.pages) (readings_of d t) k f ≤ parents_of u k f
+  still_enough k f one =
+      let c = h.sound.counted k f one in
+      ⊎_elim (λ a. ⊎_elim
+      (λ b.
+      let x : namings (length placed.pages) (readings_of d t) k f ≡ namings (length placed.pages) (readings_of d t) level frame = ap (λ z. namings (length placed.pages) (readings_of d t) z f) a ∙ ap (λ z. namings (length placed.pages) (readings_of d t) level z) b in
+      let y : parents_of u k f ≡ parents_of u level frame = ap (λ z. parents_of u z f) a ∙ ap (parents_of u level) b in
+      omega arith)
+      (λ b. let o = others k f (λ _ e. b e) in omega arith) (cases_eq f frame))
+      (λ a. let o = others k f (λ e _. a e) in omega arith) (cases_eq k level)
+
+  pub readings-less : (k f i : ℕ) → readings_of d u k f i ≡ readings_of d t k f i
+  readings-less = readings-fewer d placed t u pins h pages still_enough nodes frames owners chains told guest
+
+  pub holds-less : Holds d placed u pins
+  holds-less = holds-fewer d placed t u pins h pages still_enough nodes frames owners chains told guest
+
   pub keeps-less : u.touched ≡ t.touched → Keeps placed d d t u pins pins
-  keeps-less touched = keeps-nodes placed d t u pins h.nodes nodes pages owners guest told touched
+  keeps-less = keeps-fewer d placed t u pins h pages still_enough nodes frames owners chains told guest

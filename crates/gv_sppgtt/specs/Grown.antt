@@ -112,6 +112,14 @@ pub record Rests (frames : ℕ) (m : Memory) (roots : List ℕ) (level frame ind
   pub alive : (k f p : ℕ) → a.pages k f ≡ Some p → 1 ≤ a.parents k f
   pub same : (k f p i : ℕ) → a.pages k f ≡ Some p → i < 512 → (k ≤ level → f ≡ frame → i ≡ index → ⊥) → a.readings k f i ≡ wanted m k f i
 
+-- a node that is there before and after has kept its page
+abbrev pub KeepPlaces : Pages → Pages → Type 0
+KeepPlaces before after = (level frame p q : ℕ) → before level frame ≡ Some p → after level frame ≡ Some q → q ≡ p
+
+-- The same tables have nodes, and the same large pages are split.
+abbrev pub HaveSameNodes : Pages → Pages → Type 0
+HaveSameNodes before after = (level frame : ℕ) → is_some (after level frame) ≡ is_some (before level frame)
+
 -- what a call that may acquire gives: the nodes grew, or nothing changed
 pub record Acquired (frames : ℕ) (m : Memory) (level : ℕ) (e : Process) (a b : Sketch) : Type 0 where
   pub kept : Kept a b

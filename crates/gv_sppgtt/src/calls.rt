@@ -4,7 +4,8 @@ ghost use Rattle.gv_entry.specs.Tables.{has_bad_entry};
 ghost use Rattle.gv_guest.specs.Placed.{Placed, memory_in};
 ghost use Rattle.gv_gpu.specs.Device.{Device};
 ghost use Rattle.gv_shape.specs.Counts.{is_among};
-ghost use Rattle.gv_sppgtt.specs.Grown.{Rests};
+ghost use Rattle.gv_sppgtt.specs.Grown.{Rests, HaveSameNodes, nodes_of};
+ghost use Rattle.gv_sppgtt.specs.Clearing.{IsWithin};
 ghost use Rattle.gv_sppgtt.specs.Sound.{flag};
 ghost use Rattle.gv_sppgtt.specs.State.{pages_of, sketch_of, is_table};
 ghost use Rattle.gv_sppgtt.specs.Holding.{Holds, Keeps};
@@ -53,6 +54,7 @@ impl Tables {
         requires serves { Serves (G.state gpu.old) memory.old.frames memory.old.pins self.old (memory_in (G.state gpu.old) memory.old.frames) }
         ensures serves { OnOk result (Serves (G.state gpu.new) memory.new.frames memory.new.pins self.new (memory_in (G.state gpu.new) memory.new.frames)) }
         ensures roots { OnOk result (roots_of self.new ≡ with_root (length memory.old.frames.pages) (roots_of self.old) root) }
+        ensures stay { OnOk result (IsWithin (pages_of self.old) (pages_of self.new)) }
         ensures changed { IfOk result (λ changed. Tells (guarded_of self.old) (guarded_of self.new) (length memory.old.frames.pages) changed.guarded.items changed.unguarded.items) }
         ensures good { OnOk result (is_refused (memory_in (G.state gpu.old) memory.old.frames) (roots_of self.old) root ≡ false) }
         ensures bad { IsErrOf result TableFault.BadEntry → is_refused (memory_in (G.state gpu.old) memory.old.frames) (roots_of self.old) root ≡ true }
@@ -87,6 +89,8 @@ impl Tables {
         ensures serves { OnOk result (Serves (G.state gpu.new) memory.new.frames memory.new.pins self.new (memory_in (G.state gpu.new) memory.new.frames)) }
         ensures roots { OnOk result (roots_of self.new ≡ roots_of self.old) }
         ensures changed { IfOk result (λ changed. Tells (guarded_of self.old) (guarded_of self.new) (length memory.old.frames.pages) changed.guarded.items changed.unguarded.items) }
+        ensures shadow_roots { OnOk result ((root : ℕ) → pages_of self.new 4 root ≡ pages_of self.old 4 root) }
+        ensures pokes { OnOk result (HaveSameNodes (pages_of self.old) (pages_of self.new) → ((G.state gpu.new).pokes ≤ (G.state gpu.old).pokes + nodes_of (pages_of self.old) frame) × ((level table : ℕ) → pages_of self.new level table ≡ pages_of self.old level table)) }
         ensures good { OnOk result (has_bad_entry (memory_in (G.state gpu.old) memory.old.frames) (roots_of self.old) ≡ false) }
         ensures bad { IsErrOf result TableFault.BadEntry → has_bad_entry (memory_in (G.state gpu.old) memory.old.frames) (roots_of self.old) ≡ true }
         ensures frames { memory.new.frames ≡ memory.old.frames }
@@ -107,6 +111,7 @@ impl Tables {
         requires root { is_among (roots_of self.old) root ≡ true }
         ensures serves { OnOk result (Serves (G.state gpu.new) memory.new.frames memory.new.pins self.new (memory_in (G.state gpu.new) memory.new.frames)) }
         ensures roots { OnOk result (roots_of self.new ≡ without_root (roots_of self.old) root) }
+        ensures stay { OnOk result (IsWithin (pages_of self.new) (pages_of self.old)) }
         ensures changed { IfOk result (λ changed. Tells (guarded_of self.old) (guarded_of self.new) (length memory.old.frames.pages) changed.guarded.items changed.unguarded.items) }
         ensures frames { memory.new.frames ≡ memory.old.frames }
         ensures holds { Holds (G.state gpu.new) memory.new.frames self.new memory.new.pins }
@@ -157,6 +162,7 @@ impl Tables {
         requires new { pages_of self.old 4 root ≡ None }
         ensures serves { OnOk result (Serves (G.state gpu.new) frames.now pins.new self.new (memory_in (G.state gpu.new) frames.now)) }
         ensures roots { OnOk result (roots_of self.new ≡ with_root (length frames.now.pages) (roots_of self.old) root) }
+        ensures stay { OnOk result (IsWithin (pages_of self.old) (pages_of self.new)) }
         ensures changed { IfOk result (λ changed. Tells (guarded_of self.old) (guarded_of self.new) (length frames.now.pages) changed.guarded.items changed.unguarded.items) }
         ensures good { OnOk result (is_refused (memory_in (G.state gpu.old) frames.now) (roots_of self.old) root ≡ false) }
         ensures bad { IsErrOf result TableFault.BadEntry → is_refused (memory_in (G.state gpu.old) frames.now) (roots_of self.old) root ≡ true }
@@ -185,6 +191,8 @@ impl Tables {
         ensures serves { OnOk result (Serves (G.state gpu.new) frames.now pins.new self.new (memory_in (G.state gpu.new) frames.now)) }
         ensures roots { OnOk result (roots_of self.new ≡ roots_of self.old) }
         ensures changed { IfOk result (λ changed. Tells (guarded_of self.old) (guarded_of self.new) (length frames.now.pages) changed.guarded.items changed.unguarded.items) }
+        ensures shadow_roots { OnOk result ((root : ℕ) → pages_of self.new 4 root ≡ pages_of self.old 4 root) }
+        ensures pokes { OnOk result (HaveSameNodes (pages_of self.old) (pages_of self.new) → ((G.state gpu.new).pokes ≤ (G.state gpu.old).pokes + nodes_of (pages_of self.old) frame) × ((level table : ℕ) → pages_of self.new level table ≡ pages_of self.old level table)) }
         ensures good { OnOk result (has_bad_entry (memory_in (G.state gpu.old) frames.now) (roots_of self.old) ≡ false) }
         ensures bad { IsErrOf result TableFault.BadEntry → has_bad_entry (memory_in (G.state gpu.old) frames.now) (roots_of self.old) ≡ true }
         ensures holds { Holds (G.state gpu.new) frames.now self.new pins.new }
@@ -209,6 +217,7 @@ impl Tables {
         requires root { is_among (roots_of self.old) root ≡ true }
         ensures serves { OnOk result (Serves (G.state gpu.new) frames.now pins.new self.new (memory_in (G.state gpu.new) frames.now)) }
         ensures roots { OnOk result (roots_of self.new ≡ without_root (roots_of self.old) root) }
+        ensures stay { OnOk result (IsWithin (pages_of self.new) (pages_of self.old)) }
         ensures changed { IfOk result (λ changed. Tells (guarded_of self.old) (guarded_of self.new) (length frames.now.pages) changed.guarded.items changed.unguarded.items) }
         ensures holds { Holds (G.state gpu.new) frames.now self.new pins.new }
         ensures changes { ChangesTables frames.now (G.state gpu.old) (G.state gpu.new) self.old self.new pins.old pins.new }

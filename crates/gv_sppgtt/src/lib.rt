@@ -4,11 +4,12 @@
 //! A word of a node tells by itself what it stands for: each host page has an owner, a frame, and bits 2 and 3,
 //! which the device ignores, keep the guest's own writable bit of a leaf, and whether a table is a split one.
 //!
-//! The contract isn't final: `clear` and the bound on pokes are still to come, and no test runs the calls yet.
+//! The contract isn't final, and no test runs the calls yet.
 #![tactic(auto)]
 
 mod calls;
 mod changed;
+mod clear;
 mod grow;
 mod guard;
 mod laws;

@@ -6,7 +6,7 @@ ghost use Rattle.gv_guest.specs.Placed.{memory_in};
 ghost use Rattle.gv_shape.specs.Shadow.{is_live, wanted};
 ghost use Rattle.gv_shape.specs.Counts.{namings, naming, names_node, above, rank, one_if};
 ghost use Rattle.gv_sppgtt.specs.Sound.{Enters, IsBelow, IsChild, child_entry};
-ghost use Rattle.gv_sppgtt.specs.Grown.{Modest, Rests, Acquired, Released};
+ghost use Rattle.gv_sppgtt.specs.Grown.{Modest, Rests, Acquired, Released, KeepPlaces};
 ghost use Rattle.gv_sppgtt.specs.State.{pages_of, parents_of, readings_of, sketch_of};
 ghost use Rattle.gv_sppgtt.specs.Holding.{Holds, Keeps};
 
@@ -107,6 +107,7 @@ impl Tables {
         ensures holds { Holds (G.state gpu.new) frames.now self.new pins.new }
         ensures keeps { Keeps frames.now (G.state gpu.old) (G.state gpu.new) self.old self.new pins.old pins.new }
         ensures above { OnOk result ((k f : ℕ) → rank level ≤ rank k → pages_of self.new k f ≡ pages_of self.old k f) }
+        ensures stay { OnOk result (KeepPlaces (pages_of self.old) (pages_of self.new)) }
         ensures pokes { OnOk result (((k f : ℕ) → above k ≡ level → pages_of self.new k f ≡ pages_of self.old k f) → ((G.state gpu.new).pokes ≡ counted (G.state gpu.old).pokes) × ((k f : ℕ) → pages_of self.new k f ≡ pages_of self.old k f)) }
         ensures bad { IsErrOf result TableFault.BadEntry → (roots : List ℕ) → is_live (memory_in (G.state gpu.old) frames.now) roots level frame ≡ true → has_bad_entry (memory_in (G.state gpu.old) frames.now) roots ≡ true }
     {

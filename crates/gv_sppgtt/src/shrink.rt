@@ -18,7 +18,7 @@ use gv_guest::{Frames, Pins};
 
 impl Tables {
     // Takes a parent from the node of a frame at a level, and answers its page where that was the last.
-    fn unhold(&mut self, frame: u32, level: u8) -> Option<u64>
+    pub(crate) fn unhold(&mut self, frame: u32, level: u8) -> Option<u64>
         requires frame { frame < self.old.nodes.frames }
         requires low { 1 ≤ level }
         requires high { level ≤ 6 }
@@ -151,7 +151,7 @@ impl Tables {
     }
 
     // Takes out a node that has no parents, whose words are absent, and its page.
-    fn remove<G: Gpu>(
+    pub(crate) fn remove<G: Gpu>(
         &mut self,
         gpu: &mut G,
         frames: &Frames,
@@ -209,7 +209,7 @@ impl Tables {
 
     // Takes out what a word of a node names.
     #[cycle(release)]
-    fn empty_word<G: Gpu>(
+    pub(crate) fn empty_word<G: Gpu>(
         &mut self,
         gpu: &mut G,
         frames: &Frames,

@@ -53,6 +53,7 @@ impl Tables {
         requires frame { frame < length frames.now.pages }
         ensures holds { Holds (G.state gpu.new) frames.now self.new pins.now }
         ensures changes { ChangesTables frames.now (G.state gpu.old) (G.state gpu.new) self.old self.new pins.now pins.now }
+        ensures idle { guarded_of self.old frame ≡ is_table (pages_of self.old) frame → (G.state gpu.new ≡ G.state gpu.old) × (self.new ≡ self.old) }
         ensures telling { OnOk result ((d : Device) (t : Tables) → Telling frames.now d t frame (G.state gpu.old) self.old changed.old.guarded.items changed.old.unguarded.items → Telling frames.now d t (frame + 1) (G.state gpu.new) self.new changed.new.guarded.items changed.new.unguarded.items) }
     {
         let guarded = self.is_table(frame);
@@ -77,6 +78,7 @@ impl Tables {
         requires block { block < 128 }
         ensures holds { Holds (G.state gpu.new) frames.now self.new pins.now }
         ensures changes { ChangesTables frames.now (G.state gpu.old) (G.state gpu.new) self.old self.new pins.now pins.now }
+        ensures idle { ((frame : ℕ) → guarded_of self.old frame ≡ is_table (pages_of self.old) frame) → (G.state gpu.new ≡ G.state gpu.old) × (self.new ≡ self.old) }
         ensures telling { OnOk result ((d : Device) (t : Tables) → ((frame : ℕ) → flag t.touched (frame / 128) ≡ false → guarded_of t frame ≡ is_table (pages_of t) frame) → Telling frames.now d t (min (block * 128) (length frames.now.pages)) (G.state gpu.old) self.old changed.old.guarded.items changed.old.unguarded.items → Telling frames.now d t (min ((block + 1) * 128) (length frames.now.pages)) (G.state gpu.new) self.new changed.new.guarded.items changed.new.unguarded.items) }
     {
         if !self.touched[block as usize] {
@@ -101,6 +103,7 @@ impl Tables {
         requires others { (frame : ℕ) → flag self.old.touched (frame / 128) ≡ false → guarded_of self.old frame ≡ is_table (pages_of self.old) frame }
         ensures holds { Holds (G.state gpu.new) frames.now self.new pins.now }
         ensures changes { ChangesTables frames.now (G.state gpu.old) (G.state gpu.new) self.old self.new pins.now pins.now }
+        ensures idle { ((frame : ℕ) → guarded_of self.old frame ≡ is_table (pages_of self.old) frame) → G.state gpu.new ≡ G.state gpu.old }
         ensures telling { IfOk result (λ changed. Telling frames.now (G.state gpu.old) self.old (length frames.now.pages) (G.state gpu.new) (record self.new { touched = self.old.touched }) changed.guarded.items changed.unguarded.items) }
         ensures untouched { OnOk result ((block : ℕ) → flag self.new.touched block ≡ false) }
     {

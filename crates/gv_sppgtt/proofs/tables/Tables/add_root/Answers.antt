@@ -1,6 +1,8 @@
 use Rattle.std.proofs.Common.{Result, Err, ◌≡◌, ◌∷◌, length, refl, sym, ap, ◌∙◌}
 use Rattle.std.proofs.lemmas.List.{length-map}
 use Rattle.gv_guest.specs.Placed.{memory_in}
+use Rattle.gv_nodes.specs.NodeMap.{NodeMap}
+use Rattle.gv_sppgtt.specs.Sound.{pages_in}
 use Rattle.gv_entry.specs.Tables.{has_bad_entry}
 use Rattle.gv_sppgtt.specs.Serving.{roots_of, with_root}
 use Rattle.gv_sppgtt.specs.declared.tables.TableFault.{TableFault}
@@ -96,3 +98,6 @@ returns-clause-good g c =
     (ap (has_bad_entry (memory_in d placed)) (sym (returns-clause-roots g c))
     ∙ done-good placed d e f t u (record v { touched = u.touched }) v c.args.pins.now c.acquire.new.pins (c.args.root ∷ roots_of t) c.in_ok-changed.changed.guarded.items c.in_ok-changed.changed.unguarded.items 0 0
     a.keeps a.holds (rests-added placed d e t u c.args.pins.now c.acquire.new.pins c.args.root c.requires.serves c.requires.new a.grown a.keeps) p.telling p.holds refl refl refl p.untouched)
+
+pub returns-clause-stay : goal.returns-clause-stay
+returns-clause-stay g c k f q is = ap (λ (n : NodeMap). pages_in n k f) c.in_ok-changed.ensures.telling.nodes ∙ c.in_default.ensures.grown.kept.pages k f q is

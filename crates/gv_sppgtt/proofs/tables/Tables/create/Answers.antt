@@ -13,3 +13,6 @@ returns-then-has_node-clause-changed g c = tells-none (guarded_of c.args.self.no
 pub returns-then-has_node-clause-good : goal.returns-then-has_node-clause-good
 returns-then-has_node-clause-good g c =
     good-there c.args.memory.now.frames (g.G.Gpu.state c.args.gpu.now) c.args.self.now c.args.memory.now.pins c.args.root c.requires.serves (sym c.has_node.ensures ∙ c.if-has_node.true) (omega arith)
+
+pub returns-then-has_node-clause-stay : goal.returns-then-has_node-clause-stay
+returns-then-has_node-clause-stay g c k f q is = is

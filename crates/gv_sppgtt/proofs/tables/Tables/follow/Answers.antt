@@ -1,4 +1,9 @@
-use Rattle.std.proofs.Common.{Result, Err, ◌≡◌, refl, sym, ap, ◌∙◌}
+use Rattle.std.proofs.Common.{ℕ, Result, Err, is_some, ◌≡◌, refl, sym, ap, ◌∙◌, arith}
+use Rattle.gv_gpu.specs.Device.{Device}
+use Rattle.gv_nodes.specs.NodeMap.{NodeMap}
+use Rattle.gv_sppgtt.specs.Sound.{flag, pages_in}
+use Rattle.gv_sppgtt.specs.State.{pages_of}
+use Rattle.gv_sppgtt.proofs.Kept.{is_table-same}
 use Rattle.gv_guest.specs.Placed.{memory_in}
 use Rattle.gv_entry.specs.Tables.{has_bad_entry}
 use Rattle.gv_sppgtt.specs.Serving.{roots_of}
@@ -74,3 +79,21 @@ returns-clause-good g c =
     let a = c.in_default.ensures in
     ap (has_bad_entry (memory_in d placed)) (sym (returns-clause-roots g c)) ∙ done-good placed d e f t u (record v { touched = u.touched }) v c.args.pins.now c.update.new.pins (roots_of t) c.in_ok-changed.changed.guarded.items c.in_ok-changed.changed.unguarded.items c.args.frame c.args.index
     a.keeps a.holds (a.settled (roots_of t) (rests-word c.args.frames.now (g.G.Gpu.state c.args.gpu.now) c.args.self.now c.args.pins.now c.requires.serves.0 c.args.frame c.args.index c.requires.serves.1.0 c.requires.serves.1.1)) p.telling p.holds refl refl refl p.untouched
+
+pub returns-clause-shadow_roots : goal.returns-clause-shadow_roots
+returns-clause-shadow_roots g c root = ap (λ (n : NodeMap). pages_in n 4 root) c.in_ok-changed.ensures.telling.nodes ∙ c.in_default.ensures.roots root
+
+pub returns-clause-pokes : goal.returns-clause-pokes
+returns-clause-pokes g c same =
+    let t = c.args.self.now in
+    let u = c.update.new.self in
+    let v = c.tell.new.self in
+    let a = c.in_default.ensures in
+    let p = c.in_ok-changed.ensures in
+    let s = c.requires.serves.1.0 in
+    let pages = λ (k f : ℕ). ap (λ (n : NodeMap). pages_in n k f) p.telling.nodes in
+    let made = a.pokes (λ k f. ap is_some (sym (pages k f)) ∙ same k f) in
+    let idle = p.idle (λ f. ap (λ z. flag z.items f) a.keeps.told ∙ s.told f ∙ sym (is_table-same (pages_of u) (pages_of t) f (λ k. made.1 k f))) in
+    let few = made.0 in
+    let still = ap (λ (x : Device). x.pokes) idle in
+    (omega arith, λ k f. pages k f ∙ made.1 k f)

@@ -10,6 +10,7 @@ use Rattle.gv_sppgtt.specs.Sound.{child_entry, IsChild}
 use Rattle.gv_sppgtt.specs.State.{pages_of, parents_of, readings_of, sketch_of}
 use Rattle.gv_sppgtt.proofs.Relinked.{released-table, released-none, rests-relinked, acquired-above}
 use Rattle.gv_sppgtt.proofs.Kept.{keeps_trans}
+use Rattle.gv_sppgtt.proofs.Steady.{keep-places}
 use Rattle.gv_sppgtt.proofs.tables.Tables.relink.Goals as goal
 use Rattle.gv_shape.specs.Shadow.{Pages}
 use Rattle.gv_shape.proofs.Levels.{rank-below}
@@ -126,3 +127,13 @@ returns-in_default-clause-pokes g c same =
       c.replace.ensures.pokes ∙ ap (λ (x : Device). counted x.pokes) acquired.0,
       λ k q. ap (λ (x : Tables). pages_of x k q) c.replace.ensures.same ∙ acquired.1 k q,
     )
+
+pub returns-in_default-clause-stay : goal.returns-in_default-clause-stay
+returns-in_default-clause-stay g c =
+    keep-places (pages_of c.args.self.now) (pages_of c.acquire_entry.new.self) (pages_of c.replace.new.self) c.in-Ok.ensures.acquired.kept.pages
+    (λ k f p is. ap (λ (x : Tables). pages_of x k f) (sym c.replace.ensures.same) ∙ is)
+
+pub returns-clause-stay : goal.returns-clause-stay
+returns-clause-stay g c =
+    keep-places (pages_of c.args.self.now) (pages_of c.acquire_entry.new.self) (pages_of c.release.new.self) c.in-Ok.ensures.acquired.kept.pages
+    (λ k f p is. ap (λ (x : Tables). pages_of x k f) (sym c.replace.ensures.same) ∙ c.release.ensures.dropped.within k f p is)

@@ -1,4 +1,6 @@
-use Rattle.std.proofs.Common.{◌<◌, ltb, is_some, refl, sym, ◌∙◌, subst}
+use Rattle.std.proofs.Common.{◌<◌, ltb, is_some, refl, sym, ap, ◌∙◌, subst}
+use Rattle.gv_nodes.specs.NodeMap.{NodeMap}
+use Rattle.gv_sppgtt.specs.Sound.{pages_in}
 use Rattle.std.proofs.lemmas.Bool.{ltb-true, and_parts}
 use Rattle.gv_sppgtt.specs.State.{pages_of}
 use Rattle.gv_sppgtt.specs.Serving.{roots_of, without_root}
@@ -50,3 +52,6 @@ returns-clause-changed g c =
     let p = c.in_ok-changed.ensures in
     done-tells placed d e f t u (record v { touched = u.touched }) v c.args.pins.now c.release.new.pins (without_root (roots_of t) c.args.root) c.in_ok-changed.changed.guarded.items c.in_ok-changed.changed.unguarded.items 0 0
     c.release.ensures.keeps c.release.ensures.holds (rests-removed placed d e t u c.args.pins.now c.release.new.pins c.args.root c.requires.serves c.requires.root c.release.ensures.dropped c.release.ensures.keeps) p.telling p.holds refl refl refl p.untouched
+
+pub returns-clause-stay : goal.returns-clause-stay
+returns-clause-stay g c k f q is = c.release.ensures.dropped.within k f q (ap (λ (n : NodeMap). pages_in n k f) (sym c.in_ok-changed.ensures.telling.nodes) ∙ is)

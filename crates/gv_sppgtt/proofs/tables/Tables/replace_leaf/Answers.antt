@@ -1,3 +1,5 @@
+use Rattle.std.proofs.Common.{◌≡◌, ap}
+use Rattle.gv_gpu.specs.Device.{Device}
 use Rattle.gv_sppgtt.proofs.Poked.{keeps-poked}
 use Rattle.gv_sppgtt.proofs.tables.Tables.replace_leaf.Goals as goal
 
@@ -7,3 +9,6 @@ returns-clause-keeps g c =
     let e = g.G.Gpu.state c.put_leaf.new.gpu in
     let p = c.put_leaf.ensures in
     keeps-poked d e c.args.frames.now c.args.self.now c.put_leaf.new.self c.args.pins.now 1 c.args.frame c.args.page c.args.index p.poke.0 c.requires.holds c.requires.node p.poke.1 p.nodes p.guest p.told c.put_leaf.new.pins p.exact p.touched
+
+pub returns-clause-pokes : goal.returns-clause-pokes
+returns-clause-pokes g c = ap (λ (x : Device). x.pokes) c.put_leaf.ensures.poke.1

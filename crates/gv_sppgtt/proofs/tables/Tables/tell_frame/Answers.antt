@@ -56,3 +56,20 @@ pub returns-clause-changes : goal.returns-clause-changes
 returns-clause-changes g c =
     let q = c.flip.ensures in
     record { memory = q.memory; others = q.outside; guest = q.guest; pins = pins-same (length c.args.frames.now.pages) (g.G.Gpu.state c.args.gpu.now) (g.G.Gpu.state c.flip.new.gpu) c.args.self.now c.flip.new.self c.args.pins.now q.readings }
+
+pub returns-then-guarded-index-clause-idle : goal.returns-then-guarded-index-clause-idle
+returns-then-guarded-index-clause-idle g c is = (refl, refl)
+
+pub returns-in_err-push-clause-idle : goal.returns-in_err-push-clause-idle
+returns-in_err-push-clause-idle g c is =
+    let u = c.args.self.now in
+    let low = subst (λ n. c.args.frame < n) (sym c.requires.holds.sound.told_long) c.requires.frame in
+    let known : get_or u.told.items c.args.frame false ≡ c.index.result.now = get_or_default u.told.items c.args.frame false c.index.result.now low ∙ sym c.index.ensures in
+    absurd (other_bool c.is_table-guarded.result c.index.result.now c.if-guarded-index.false (c.is_table-guarded.ensures ∙ sym is ∙ known))
+
+pub returns-clause-idle : goal.returns-clause-idle
+returns-clause-idle g c is =
+    let u = c.args.self.now in
+    let low = subst (λ n. c.args.frame < n) (sym c.requires.holds.sound.told_long) c.requires.frame in
+    let known : get_or u.told.items c.args.frame false ≡ c.index.result.now = get_or_default u.told.items c.args.frame false c.index.result.now low ∙ sym c.index.ensures in
+    absurd (other_bool c.is_table-guarded.result c.index.result.now c.if-guarded-index.false (c.is_table-guarded.ensures ∙ sym is ∙ known))
