@@ -1,5 +1,6 @@
 //! A guest's memory and its global table, over the device in memory.
-ghost use Rattle.std.specs.Prelude.{◌≡◌, IfOk, length};
+ghost use Rattle.std.specs.Prelude.{◌≡◌, ◌≤◌, IfOk, length, replicate, false};
+ghost use Rattle.gv_entry.specs.Ranges.{InParts};
 ghost use Rattle.gv_guest.specs.Placed.{Hosts};
 ghost use Rattle.gv_sggtt.specs.Mirror.{Mirrors};
 ghost use Rattle.gv_sggtt.specs.Pins.{HasPins};
@@ -21,7 +22,26 @@ const RANGES: Ranges = Ranges {
     },
 };
 
-fn guest(alloc: Global) -> Result<(SoftGpu, Memory, GlobalTable), OutOfMemory>
+// A guest with pages 0 to 99,999.
+const WIDE: Ranges = Ranges {
+    low: Span {
+        first: 0,
+        pages: 65_536,
+    },
+    high: Span {
+        first: 65_536,
+        pages: 34_464,
+    },
+};
+
+fn guest(
+    alloc: Global,
+    ranges: Ranges,
+    frames: u32,
+) -> Result<(SoftGpu, Memory, GlobalTable), OutOfMemory>
+    requires parts { InParts ranges }
+    requires some { 1 ≤ frames }
+    requires few { frames ≤ 16384 }
     ensures stands { IfOk result (λ made. Hosts (⟦<SoftGpu as Gpu>⟧.state made.0) made.1.frames) }
     ensures frames { IfOk result (λ made. length made.1.frames.pages ≡ made.2.frames) }
     ensures mirrors { IfOk result (λ made. Mirrors (⟦<SoftGpu as Gpu>⟧.state made.0) made.2 made.1.frames) }
