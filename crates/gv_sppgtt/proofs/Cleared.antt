@@ -11,8 +11,8 @@ use Rattle.gv_rmap.specs.declared.leaf.Leaf.{Leaf}
 use Rattle.gv_rmap.specs.Leaves.{leaf_at}
 use Rattle.gv_rmap.specs.Chains.{ReverseMap, chain_of}
 use Rattle.gv_shape.specs.Counts.{leaves}
-use Rattle.gv_sppgtt.specs.Sound.{flag, pages_in, readings_in}
-use Rattle.gv_sppgtt.specs.State.{own_in, pages_of, readings_of}
+use Rattle.gv_sppgtt.specs.Sound.{AreInOrder, flag, pages_in, readings_in}
+use Rattle.gv_sppgtt.specs.State.{own_in, pages_of, readings_of, LiveFollows}
 use Rattle.gv_sppgtt.specs.Holding.{Holds, Keeps}
 use Rattle.gv_sppgtt.specs.Serving.{roots_of, Serves, ChangesTables, IsReady}
 use Rattle.gv_sppgtt.specs.Clearing.{AreNone}
@@ -59,8 +59,11 @@ module _ (d e : Device) (placed : Placed) (t u v : Tables) (pins mid : List ℕ)
       let clash : None ≡ Some leaf.page = sym (gone at.0 at.1) ∙ at.2.1.0 in
       cc
 
+  ordered : AreInOrder v.chains
+  ordered = subst AreInOrder (sym chains) h.sound.chained.ordered
+
   pub cleared-serves : (m : Memory) → Serves e placed mid v m
-  cleared-serves m = empty-serves v cleared-none e placed mid m h.stands frames chains_long told_long owners_long no_chain told clean h.pinned.0
+  cleared-serves m = empty-serves v cleared-none e placed mid m h.stands frames chains_long told_long owners_long ordered no_chain told clean h.pinned.0
       (λ q low. let z = no_leaf u gone e placed q in let p = (h.pinned.1 q low).1 in omega arith)
       owner h.few are (let z = no_count u gone e placed in let room = h.room in omega arith)
 
@@ -69,7 +72,7 @@ module _ (d e : Device) (placed : Placed) (t u v : Tables) (pins mid : List ℕ)
       let room = r.room in
       let size = r.long in
       let few = h.few in
-      empty-serves v cleared-none d' placed' pins' (memory_in d' placed') r.stands (frames ∙ sym r.long) (chains_long ∙ sym r.long) (told_long ∙ sym r.long) owners_long no_chain told clean r.counted r.few
+      empty-serves v cleared-none d' placed' pins' (memory_in d' placed') r.stands (frames ∙ sym r.long) (chains_long ∙ sym r.long) (told_long ∙ sym r.long) owners_long ordered no_chain told clean r.counted r.few
       (owner ∙ sym r.owner) (omega arith) are (omega arith)
 
   same_readings : readings_of e v ≡ readings_of e u
@@ -79,6 +82,7 @@ module _ (d e : Device) (placed : Placed) (t u v : Tables) (pins mid : List ℕ)
   cleared-changes = record {
     memory = keeps.memory;
     others = ap (λ (s : NodeMap). outside (tables_part placed.guest (own_in s)) e) nodes ∙ keeps.outside;
+    live = subst (λ (s : NodeMap). LiveFollows (length placed.pages) d e (pages_of t) (pages_in s)) (sym nodes) keeps.live;
     guest = guest ∙ keeps.guest;
     pins = λ q. keeps.pins q ∙ ap (λ r. get_or pins q 0 + leaves (length placed.pages) r q) (sym same_readings);
   }

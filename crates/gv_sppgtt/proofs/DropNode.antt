@@ -113,6 +113,7 @@ module _ (d : Device) (placed : Placed) (nodes gone : NodeMap) (chains : Reverse
           (names-less placed (pages_in nodes) (pages_in gone) (flag told) k (old_readings k f i) (get_or (d.words p) i 0) (λ lower h q e up one there. still k f p i lower h q is small e up one there) (sound.local.names k f p i (was k f p is) small)));
     };
     chained = record {
+      ordered = sound.chained.ordered;
       linked = λ k f p i h w leafy is small reads. sound.chained.linked k f p i h w leafy (was k f p is) small (sym (node_reading k f p i is) ∙ reads);
       leaves = λ h q leaf at.
           let old = sound.chained.leaves h q leaf at in

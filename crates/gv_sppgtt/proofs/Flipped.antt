@@ -1,6 +1,6 @@
 -- A frame becomes guarded or unguarded: its leaves are rewritten one by one. In between each word has the
 -- guards as they are at its own key.
-use Rattle.std.proofs.Common.{ℕ, ◌+◌, ◌*◌, ◌/◌, ◌%◌, ◌^◌, ◌<◌, ◌≡◌, ◌≢◌, Bool, true, ◌&&◌, eqb, cond, List, Some, get_or, set, get_or-set_same, get_or-set_other, refl, sym, ap, ◌∙◌, subst, arith, inl, inr, ⊎_elim, ◌⊎◌}
+use Rattle.std.proofs.Common.{ℕ, ◌+◌, ◌*◌, ◌/◌, ◌%◌, ◌^◌, ◌<◌, ◌≡◌, ◌≢◌, Bool, true, false, ◌&&◌, eqb, cond, List, Some, get_or, set, get_or-set_same, get_or-set_other, refl, sym, ap, ◌∙◌, subst, arith, inl, inr, ⊎_elim, ◌⊎◌}
 use Rattle.std.proofs.lemmas.Bool.{cases_eq, eq-eqb, ne_eqb}
 use Rattle.gv_entry.specs.declared.process.Process.{Process}
 use Rattle.gv_entry.specs.declared.process.Process.TheVariants.{Absent, Table, Page, Bad, Large}
@@ -105,4 +105,26 @@ module _ (d : Device) (placed : Placed) (frames : ℕ) (pages : Pages) (guards :
         (λ x v e. ap (λ b. cond (b && eqb x h) new (guards (p * 2 ^ 16 + i) x)) (sym (ne_eqb (p * 2 ^ 16 + i) (page * 2 ^ 16 + index) far)))
         (local.names k f p i there small)))
         (which p i));
+  }
+
+  -- a leaf that isn't writable stands for the same under any guard
+  unwritable : (G K : ℕ → Bool) (k word : ℕ) → Names placed pages G k (Page h false) word → Names placed pages K k (Page h false) word
+  unwritable G K k word n = (n.0, n.1, n.2)
+
+  pub local-passed : w ≡ false → LocalBy d placed pages (with_guard guards (page * 2 ^ 16 + index) h new) (readings_in d.words owners pages)
+  local-passed shut = record {
+    labelled = local.labelled;
+    names = λ k f p i there small. ⊎_elim
+        (λ same.
+        let at = pair k f p there same.0 in
+        let reading : readings_in d.words owners pages k f i ≡ Page h false = ap (λ x. readings_in d.words owners pages x f i) at.0 ∙ ap (λ x. readings_in d.words owners pages level x i) at.1 ∙ ap (readings_in d.words owners pages level table) same.1 ∙ reads ∙ ap (λ b. Page h b) shut in
+        subst (λ r. Names placed pages (with_guard guards (page * 2 ^ 16 + index) h new (p * 2 ^ 16 + i)) k r (get_or (d.words p) i 0)) (sym reading)
+        (unwritable (guards (p * 2 ^ 16 + i)) (with_guard guards (page * 2 ^ 16 + index) h new (p * 2 ^ 16 + i)) k (get_or (d.words p) i 0)
+        (subst (λ r. Names placed pages (guards (p * 2 ^ 16 + i)) k r (get_or (d.words p) i 0)) reading (local.names k f p i there small))))
+        (λ apart.
+        let far : p * 2 ^ 16 + i ≢ page * 2 ^ 16 + index = λ e. apart (omega arith) (omega arith) in
+        names-guards placed pages (guards (p * 2 ^ 16 + i)) (with_guard guards (page * 2 ^ 16 + index) h new (p * 2 ^ 16 + i)) k (readings_in d.words owners pages k f i) (get_or (d.words p) i 0)
+        (λ x v e. ap (λ b. cond (b && eqb x h) new (guards (p * 2 ^ 16 + i) x)) (sym (ne_eqb (p * 2 ^ 16 + i) (page * 2 ^ 16 + index) far)))
+        (local.names k f p i there small))
+        (which p i);
   }

@@ -1,8 +1,9 @@
 -- The leaves of a frame are rewritten one after another.
-use Rattle.std.proofs.Common.{ℕ, ◌+◌, ◌*◌, ◌^◌, ◌<◌, ◌≡◌, Bool, true, false, ◌&&◌, ◌||◌, eqb, cond, List, [], ◌∷◌, ◌++◌, Option, None, Some, length, get_or, set, get_or-set_same, get_or-set_other, refl, sym, ap, ◌∙◌, subst, arith, ⊎_elim}
+use Rattle.std.proofs.Common.{ℕ, ◌+◌, ◌*◌, ◌^◌, ◌<◌, ◌≤◌, ◌≡◌, Bool, true, false, ◌&&◌, ◌||◌, eqb, cond, List, [], ◌∷◌, ◌++◌, Option, None, Some, length, filter, length-append, get_or, set, get_or-set_same, get_or-set_other, refl, sym, ap, ◌∙◌, subst, arith, ⊎_elim}
 use Rattle.std.specs.List.{list_any, All}
 use Rattle.std.proofs.lemmas.Bool.{cases_eq, eq-eqb, ne_eqb}
 use Rattle.std.proofs.lemmas.List.{length-set}
+use Rattle.std.proofs.lemmas.List.Elements.{filter-append}
 use Rattle.std.proofs.lemmas.List.Folds.{list_any-append}
 use Rattle.std.proofs.lemmas.Grind.{common_steps}
 use Rattle.gv_entry.specs.declared.process.Process.{Process}
@@ -15,12 +16,13 @@ use Rattle.gv_rmap.specs.Leaves.{leaf_at, key}
 use Rattle.gv_rmap.specs.Chains.{chain_of}
 use Rattle.gv_shape.specs.Shadow.{Names, Local, leaf_word, has_leaves}
 use Rattle.gv_shape.specs.Shadow.{Readings}
+use Rattle.gv_shape.specs.Counts.{one_if}
 use Rattle.gv_sppgtt.specs.Sound.{reading_at, Boarded, Chained, Counted, Pinned, flag}
 use Rattle.gv_sppgtt.specs.State.{parents_of}
 use Rattle.gv_sppgtt.specs.State.{own_in, own_part, pages_of, readings_of, shadow_part}
 use Rattle.gv_sppgtt.specs.Holding.{Holds}
 use Rattle.gv_sppgtt.specs.declared.tables.Tables.{Tables}
-use Rattle.gv_sppgtt.proofs.Flipped.{Guards, LocalBy, with_guard, names-guards, local-flipped, flipped-readings}
+use Rattle.gv_sppgtt.proofs.Flipped.{Guards, LocalBy, with_guard, names-guards, local-flipped, local-passed, flipped-readings}
 use Rattle.gv_sppgtt.proofs.OwnPages.{own-poked, page-own}
 use Rattle.gv_sppgtt.proofs.Outside.{shadow-poked, stands-shadow}
 
@@ -35,6 +37,14 @@ pub record Flipping (start now : Device) (placed : Placed) (t : Tables) (frame :
   pub own : outside (own_part placed.guest t) now ≡ outside (own_part placed.guest t) start
   pub outside : outside (shadow_part placed.guest) now ≡ outside (shadow_part placed.guest) start
   pub live : now.live ≡ start.live
+  pub pokes : now.pokes ≤ start.pokes + length (filter (λ leaf. leaf.writable) done)
+
+one_more : (done : List Leaf) (leaf : Leaf) → length (filter (λ l. l.writable) (done ++ leaf ∷ [])) ≡ length (filter (λ l. l.writable) done) + one_if leaf.writable
+one_more done leaf = ap length (filter-append (λ l. l.writable) done (leaf ∷ [])) ∙ length-append (filter (λ l. l.writable) done) (filter (λ l. l.writable) (leaf ∷ [])) ∙ ap (λ n. length (filter (λ l. l.writable) done) + n) (last leaf.writable)
+  where
+    last : (b : Bool) → length (cond b (leaf ∷ []) []) ≡ one_if b
+    last true = refl
+    last false = refl
 
 same_eqb : (a b : ℕ) → eqb a b ≡ eqb b a
 same_eqb a b = ⊎_elim (λ e. eq-eqb a b e ∙ sym (eq-eqb b a (sym e))) (λ n. ne_eqb a b n ∙ sym (ne_eqb b a (λ e. n (sym e)))) (cases_eq a b)
@@ -104,8 +114,11 @@ module _ (start now : Device) (placed : Placed) (t : Tables) (pins : List ℕ) (
     at_page : after.words leaf.page ≡ set (now.words leaf.page) leaf.index (leaf_word (get_or placed.pages frame 0) leaf.writable new)
     at_page = ap (λ b. cond b (set (now.words leaf.page) leaf.index (leaf_word (get_or placed.pages frame 0) leaf.writable new)) (now.words leaf.page)) (eq-eqb leaf.page leaf.page refl)
 
-    pub flip-step : Flipping start after placed t frame new (done ++ leaf ∷ []) rest
-    flip-step = record {
+    grouped : (xs ys : List Leaf) (l : Leaf) → (xs ++ l ∷ []) ++ ys ≡ xs ++ l ∷ ys
+    grouped xs ys l = grind (arith, common_steps)
+
+    flip-step : leaf.writable ≡ true → Flipping start after placed t frame new (done ++ leaf ∷ []) rest
+    flip-step open_to = record {
       split = grouped done rest leaf ∙ g.split;
       boarded = record {
         low = g.boarded.low;
@@ -124,10 +137,28 @@ module _ (start now : Device) (placed : Placed) (t : Tables) (pins : List ℕ) (
       outside = shadow-poked now placed.guest leaf.page leaf.index (leaf_word (get_or placed.pages frame 0) leaf.writable new) (g.local.labelled known.0 known.1 leaf.page known.2.1.0) ∙ g.outside;
       own = own-poked placed.guest (own_in t.nodes) now leaf.page leaf.index (leaf_word (get_or placed.pages frame 0) leaf.writable new) (g.local.labelled known.0 known.1 leaf.page known.2.1.0) (page-own t.nodes known.0 known.1 leaf.page known.2.1.0) ∙ g.own;
       live = g.live;
+      pokes = let more = one_more done leaf in let one : one_if leaf.writable ≡ 1 = ap one_if open_to in let p = g.pokes in omega arith;
     }
+
+    flip-pass : leaf.writable ≡ false → Flipping start now placed t frame new (done ++ leaf ∷ []) rest
+    flip-pass shut = record {
+      split = grouped done rest leaf ∙ g.split;
+      boarded = g.boarded;
+      local = subst (λ (G : Guards). LocalBy now placed (pages_of t) G (readings_of now t)) (sym (more_guards t.told.items frame new done leaf))
+          (local-passed now placed (length placed.pages) (pages_of t) (guards_after t.told.items frame new done) t.owners.items g.boarded g.local known.0 known.2.0 known.1 leaf.page leaf.index frame leaf.writable new known.2.1.0 known.2.1.1.0 reads shut);
+      readings = g.readings;
+      outside = g.outside;
+      own = g.own;
+      live = g.live;
+      pokes = let more = one_more done leaf in let none : one_if leaf.writable ≡ 0 = ap one_if shut in let p = g.pokes in omega arith;
+    }
+
+    pub flip-next : Flipping start (cond leaf.writable after now) placed t frame new (done ++ leaf ∷ []) rest
+    flip-next = by leaf.writable refl
       where
-        grouped : (xs ys : List Leaf) (l : Leaf) → (xs ++ l ∷ []) ++ ys ≡ xs ++ l ∷ ys
-        grouped xs ys l = grind (arith, common_steps)
+        by : (b : Bool) → leaf.writable ≡ b → Flipping start (cond b after now) placed t frame new (done ++ leaf ∷ []) rest
+        by true is = flip-step is
+        by false is = flip-pass is
 
   -- all leaves are rewritten
   pub flip-end : (done : List Leaf) → frame < length t.told.items → Flipping start now placed t frame new done [] → Local now placed (pages_of t) (flag (set t.told.items frame new)) (readings_of now t)

@@ -13,12 +13,12 @@ use Rattle.gv_nodes.proofs.NodeOf.{node_of-from}
 use Rattle.std.specs.FinMap.{get-empty}
 use Rattle.std.specs.Ordering.{nat_cmp}
 use Rattle.gv_rmap.specs.declared.leaf.Leaf.{Leaf}
-use Rattle.gv_rmap.specs.Leaves.{leaf_at}
+use Rattle.gv_rmap.specs.Leaves.{IsInOrder, leaf_at}
 use Rattle.gv_rmap.specs.Chains.{ReverseMap, no_leaves, chain_of}
 use Rattle.gv_shape.specs.Shadow.{Readings}
 use Rattle.gv_shape.specs.Counts.{total, uses, namings, above, names_node, leaves, maps, one_if, is_among}
 use Rattle.gv_shape.proofs.Totals.{total-same}
-use Rattle.gv_sppgtt.specs.Sound.{page_of_node, flag, reading_at}
+use Rattle.gv_sppgtt.specs.Sound.{AreInOrder, page_of_node, flag, reading_at}
 use Rattle.gv_sppgtt.specs.Grown.{count_of, nodes_of, splits_of}
 use Rattle.gv_sppgtt.specs.State.{pages_of, parents_of, readings_of, is_table}
 use Rattle.gv_sppgtt.specs.Serving.{roots_of, Serves, IsReady}
@@ -105,7 +105,7 @@ module _ (t : Tables) (none : AreNone (pages_of t)) where
 
     -- they serve any words of memory, where nothing is told and no chain has a leaf
     module _ (pins : List ℕ) (m : Memory) (stands : Hosts d placed) (frames : t.nodes.frames ≡ length placed.pages) (chains : length t.chains.chains ≡ length placed.pages) (told : length t.told.items ≡ length placed.pages)
-        (owners : length t.owners.items ≡ 131072) (no_chain : (h q : ℕ) (leaf : Leaf) → leaf_at (chain_of t.chains h) q ≡ Some leaf → ⊥) (guarded : (f : ℕ) → flag t.told.items f ≡ false)
+        (owners : length t.owners.items ≡ 131072) (ordered : AreInOrder t.chains) (no_chain : (h q : ℕ) (leaf : Leaf) → leaf_at (chain_of t.chains h) q ≡ Some leaf → ⊥) (guarded : (f : ℕ) → flag t.told.items f ≡ false)
         (clean : (block : ℕ) → flag t.touched block ≡ false) (counted : length pins ≡ length placed.pages) (some : (h : ℕ) → h < length placed.pages → get_or pins h 0 ≤ 2 ^ 24)
         (owner : t.guest.0 ≡ placed.guest) (few : length placed.pages ≤ 16384) (nodes : AreNodes t.nodes) (room : d.live + (4 * length placed.pages + 64) ≤ 131072) where
       pub empty-serves : Serves d placed pins t m
@@ -126,7 +126,7 @@ module _ (t : Tables) (none : AreNone (pages_of t)) where
               owner = λ k f p is. clash k f p is;
             };
             local = record { labelled = λ k f p is. clash k f p is; names = λ k f p i is small. clash k f p is };
-            chained = record { linked = λ k f p i h w leafy is small reads. clash k f p is; leaves = λ h q leaf is. absurd (no_chain h q leaf is) };
+            chained = record { ordered = ordered; linked = λ k f p i h w leafy is small reads. clash k f p is; leaves = λ h q leaf is. absurd (no_chain h q leaf is) };
             counted = λ k f one. let z = no_names k f in omega arith;
           };
           pinned = (counted, λ h low. let z = no_leaf h in let b = some h low in (omega arith, omega arith));
@@ -162,6 +162,11 @@ module _ (t : Tables) (guest frames : ℕ) (nodes : t.nodes ≡ no_nodes frames)
       let e : None ≡ Some leaf = ap (λ l. leaf_at l q) (sym empty) ∙ is in
       cc
 
+  ordered : AreInOrder t.chains
+  ordered h =
+      let empty : chain_of t.chains h ≡ [] = ap (λ (s : ReverseMap). chain_of s h) chains ∙ same_get frames h [] in
+      subst IsInOrder (sym empty) tt
+
   pub fresh-serves : Serves d placed pins t (memory_in d placed)
   fresh-serves =
       let long = r.long in
@@ -170,4 +175,4 @@ module _ (t : Tables) (guest frames : ℕ) (nodes : t.nodes ≡ no_nodes frames)
       (ap (λ (s : NodeMap). s.frames) nodes ∙ sym r.long)
       (ap (λ (s : ReverseMap). length s.chains) chains ∙ length-replicate frames [] ∙ sym r.long)
       (ap length told ∙ length-replicate frames false ∙ sym r.long)
-      owners no_chain (λ f. ap (λ (l : List Bool). flag l f) told ∙ same_get frames f false) clean r.counted r.few (owner ∙ sym r.owner) (omega arith) (subst AreNodes (sym nodes) (are-none frames)) (omega arith)
+      owners ordered no_chain (λ f. ap (λ (l : List Bool). flag l f) told ∙ same_get frames f false) clean r.counted r.few (owner ∙ sym r.owner) (omega arith) (subst AreNodes (sym nodes) (are-none frames)) (omega arith)

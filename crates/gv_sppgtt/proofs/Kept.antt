@@ -10,18 +10,20 @@ use Rattle.gv_sppgtt.specs.Sound.{readings_in}
 use Rattle.gv_sppgtt.specs.State.{own_in, is_table, pages_of, readings_of}
 use Rattle.gv_sppgtt.specs.Holding.{Keeps}
 use Rattle.gv_sppgtt.specs.declared.tables.Tables.{Tables}
+use Rattle.gv_sppgtt.proofs.LiveCounts.{live-none, live-same, live_trans}
 use Rattle.gv_sppgtt.proofs.OwnPages.{own-same, part-same}
 
 pub is_table-same : (p q : Pages) (f : ℕ) → ((k : ℕ) → p k f ≡ q k f) → is_table p f ≡ is_table q f
 is_table-same p q f same = λ i. is_some (same 4 i) || (is_some (same 3 i) || (is_some (same 2 i) || is_some (same 1 i)))
 
 pub keeps-none : (placed : Placed) (d : Device) (t : Tables) (pins : List ℕ) → Keeps placed d d t t pins pins
-keeps-none placed d t pins = record { memory = refl; outside = refl; guest = refl; told = refl; pins = λ h. refl; blocks = λ b h. h; tables = λ f h. refl }
+keeps-none placed d t pins = record { memory = refl; outside = refl; live = live-none (length placed.pages) d (pages_of t); guest = refl; told = refl; pins = λ h. refl; blocks = λ b h. h; tables = λ f h. refl }
 
 pub keeps_trans : (placed : Placed) (d e f : Device) (t u v : Tables) (x y z : List ℕ) → Keeps placed d e t u x y → Keeps placed e f u v y z → Keeps placed d f t v x z
 keeps_trans placed d e f t u v x y z first second = record {
   memory = second.memory ∙ first.memory;
   outside = second.outside ∙ first.outside;
+  live = live_trans (length placed.pages) d e f (pages_of t) (pages_of u) (pages_of v) first.live second.live;
   guest = second.guest ∙ first.guest;
   told = second.told ∙ first.told;
   pins = λ h. let a = first.pins h in let b = second.pins h in omega arith;
@@ -38,6 +40,7 @@ keeps-nodes placed d t u pins before after pages owners guest told touched =
     record {
       memory = refl;
       outside = ap (λ (p : Part). outside p d) (part-same placed.guest (own_in t.nodes) (own_in u.nodes) (own-same t.nodes u.nodes before after pages));
+      live = live-same (length placed.pages) d d (pages_of t) (pages_of u) refl same;
       guest = guest;
       told = told;
       pins = λ h. ap (λ r. get_or pins h 0 + leaves (length placed.pages) r h) (sym readings);

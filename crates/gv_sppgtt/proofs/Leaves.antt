@@ -7,7 +7,7 @@ use Rattle.gv_rmap.specs.declared.leaf.Leaf.{Leaf}
 use Rattle.gv_rmap.specs.Leaves.{leaf_at}
 use Rattle.gv_rmap.specs.Chains.{ReverseMap, chain_of}
 use Rattle.gv_shape.specs.Shadow.{Pages, Readings, has_leaves}
-use Rattle.gv_sppgtt.specs.Sound.{Chained, Enters, leaf_of, place_leaf}
+use Rattle.gv_sppgtt.specs.Sound.{AreInOrder, Chained, Enters, leaf_of, place_leaf}
 
 module _ (pages : Pages) (old new : Readings) (chains after : ReverseMap) (table page index : ℕ) (e : Process)
     (apart : (k f j g p : ℕ) → pages k f ≡ Some p → pages j g ≡ Some p → (k ≡ j) × (f ≡ g))
@@ -37,8 +37,9 @@ module _ (pages : Pages) (old new : Readings) (chains after : ReverseMap) (table
           ((λ i. Page (eqb-true t h b i) (flag i)), sym made ∙ ap (leaf_of page index) flag)
       by false b s = cc
 
-  pub chained-entered : Chained pages new after
-  chained-entered = record {
+  pub chained-entered : AreInOrder after → Chained pages new after
+  chained-entered ordered = record {
+    ordered = ordered;
     linked = λ k f p i h w leafy there small reads. ⊎_elim
         (λ same_k. ⊎_elim
         (λ same_f. ⊎_elim

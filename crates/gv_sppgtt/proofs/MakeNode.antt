@@ -165,6 +165,7 @@ module _ (d : Device) (placed : Placed) (nodes made : NodeMap) (chains : Reverse
     boarded = boarded-made;
     local = local-made;
     chained = record {
+      ordered = sound.chained.ordered;
       linked = λ k f p i h w leafy is small reads. ⊎_elim
           (λ s. let clash : Absent ≡ Page h w = sym (ap (λ x. new_readings k x i) s.1.0 ∙ ap (λ x. new_readings x frame i) s.0 ∙ new_node i) ∙ reads in cc)
           (λ was. sound.chained.linked k f p i h w leafy was small (sym (old_node k f p i was small) ∙ reads))

@@ -1,10 +1,13 @@
 -- A node is made, seen by all that is known of the tables.
-use Rattle.std.proofs.Common.{List, ℕ, ◌≡◌, ◌/◌, ◌≤◌, ◌<◌, true, false, Some, None, [], length, get_or, set, sym, ap, ◌∙◌, subst, arith, ⊎_elim}
+use Rattle.std.proofs.Common.{List, ℕ, ◌+◌, ◌*◌, ◌^◌, ◌≡◌, ◌/◌, ◌≤◌, ◌<◌, true, false, Some, None, [], length, get_or, set, refl, sym, ap, ◌∙◌, subst, arith, ⊎_elim}
 use Rattle.std.proofs.lemmas.Bool.{cases_eq, false≢true}
 use Rattle.gv_gpu.specs.Device.{Device, added}
 use Rattle.gv_gpu.specs.Part.{outside}
 use Rattle.gv_guest.specs.Placed.{Placed}
 use Rattle.gv_nodes.specs.NodeMap.{NodeMap, AreNodes, reserved}
+use Rattle.gv_rmap.specs.declared.leaf.Leaf.{Leaf}
+use Rattle.gv_rmap.specs.Leaves.{leaf_at, IsInOrder}
+use Rattle.gv_rmap.specs.Chains.{ReverseMap}
 use Rattle.gv_shape.specs.Shadow.{Pages, shadow_label}
 use Rattle.gv_shape.specs.Counts.{leaves, maps}
 use Rattle.gv_sppgtt.specs.Sound.{pages_in, parents_in, page_of_node, parents_of_node, readings_in, IsWhole}
@@ -17,6 +20,7 @@ use Rattle.gv_sppgtt.proofs.SameNodes.{sound-same, pinned-same, room-same}
 use Rattle.gv_sppgtt.proofs.Room.{count-made}
 use Rattle.gv_sppgtt.proofs.Outside.{stands-shadow, memory-shadow, shadow-added}
 use Rattle.gv_sppgtt.proofs.Kept.{is_table-same}
+use Rattle.gv_sppgtt.proofs.LiveCounts.{live-more}
 use Rattle.gv_sppgtt.proofs.OwnPages.{own-here, own-others, own-added}
 use Rattle.gv_sppgtt.proofs.MakeNode.{made-sketch, sound-made, made-uses}
 
@@ -26,7 +30,55 @@ same-pages s r is = ap pages_in is ∙ (λ i k f. page_of_node (node_of-reserved
 pub same-parents : (s r : NodeMap) → r ≡ reserved s 1 → parents_in r ≡ parents_in s
 same-parents s r is = ap parents_in is ∙ (λ i k f. parents_of_node (node_of-reserved s 1 i k f))
 
--- memory for more nodes changes nothing that is known
+-- memory for more leaves changes nothing that is known
+holds-leaves : (d : Device) (placed : Placed) (t : Tables) (pins : List ℕ) (c : ReverseMap) → c.chains ≡ t.chains.chains → Holds d placed t pins → Holds d placed (record t { chains = c }) pins
+holds-leaves d placed t pins c same h = record {
+  stands = h.stands;
+  sound = record {
+    frames = h.sound.frames;
+    chains_long = ap length same ∙ h.sound.chains_long;
+    told_long = h.sound.told_long;
+    owners_long = h.sound.owners_long;
+    boarded = h.sound.boarded;
+    local = h.sound.local;
+    chained = record {
+      ordered = λ q. subst (λ (l : List (List Leaf)). IsInOrder (get_or l q [])) (sym same) (h.sound.chained.ordered q);
+      linked = λ k f p i q w leafy is small reads. ap (λ (l : List (List Leaf)). leaf_at (get_or l q []) (p * 2 ^ 16 + i)) same ∙ h.sound.chained.linked k f p i q w leafy is small reads;
+      leaves = λ q place leaf is. h.sound.chained.leaves q place leaf (ap (λ (l : List (List Leaf)). leaf_at (get_or l q []) place) (sym same) ∙ is);
+    };
+    counted = h.sound.counted;
+  };
+  pinned = h.pinned;
+  guest = h.guest;
+  few = h.few;
+  nodes = h.nodes;
+  room = h.room;
+}
+
+keeps-leaves : (placed : Placed) (d e : Device) (t u : Tables) (x y : List ℕ) (c : ReverseMap) → Keeps placed d e (record t { chains = c }) u x y → Keeps placed d e t u x y
+keeps-leaves placed d e t u x y c k = record {
+  memory = k.memory;
+  outside = k.outside;
+  live = k.live;
+  guest = k.guest;
+  told = k.told;
+  pins = k.pins;
+  blocks = k.blocks;
+  tables = k.tables;
+}
+
+-- the same of tables that are known to be those
+module _ (d e : Device) (placed : Placed) (t r u : Tables) (x y : List ℕ) (others : r ≡ record t { chains = r.chains }) where
+  pub holds-more : r.chains.chains ≡ t.chains.chains → Holds d placed t x → Holds d placed r x
+  holds-more same h = subst (λ (z : Tables). Holds d placed z x) (sym others) (holds-leaves d placed t x r.chains same h)
+
+  pub keeps-more : Keeps placed d e r u x y → Keeps placed d e t u x y
+  keeps-more k = keeps-leaves placed d e t u x y r.chains (subst (λ (z : Tables). Keeps placed d e z u x y) others k)
+
+  pub made-more : (level frame page : ℕ) → Made level frame page (sketch_of d r) (sketch_of e u) → Made level frame page (sketch_of d t) (sketch_of e u)
+  made-more level frame page = subst (λ (z : Tables). Made level frame page (sketch_of d z) (sketch_of e u)) others
+
+-- nor does memory for more nodes
 pub holds-reserved : (d : Device) (placed : Placed) (t : Tables) (pins : List ℕ) (r : NodeMap) → r ≡ reserved t.nodes 1 → Holds d placed t pins → Holds d placed (record t { nodes = r }) pins
 holds-reserved d placed t pins r is h =
     let frames = ap (λ (n : NodeMap). n.frames) is in
@@ -96,6 +148,7 @@ module _ (d : Device) (placed : Placed) (t u : Tables) (pins : List ℕ) (r : No
     memory = memory-shadow d after placed outside_same h.stands;
     outside = own-added placed.guest (own_in t.nodes) (own_in u.nodes) d page free empty (own-here t.nodes u.nodes h.nodes nodes level frame page here absent others')
         (own-others t.nodes u.nodes h.nodes nodes level frame page here absent others');
+    live = live-more (length placed.pages) d after (pages_of t) (pages_of u) refl (count-made (pages_of t) level frame absent one four (length placed.pages) h.few low whole (pages_of u) page here others');
     guest = guest;
     told = told;
     pins = λ q.

@@ -17,6 +17,7 @@ use Rattle.gv_sppgtt.specs.State.{own_in, own_part, is_table, pages_of, readings
 use Rattle.gv_sppgtt.specs.Holding.{Holds, Keeps}
 use Rattle.gv_sppgtt.specs.declared.tables.Tables.{Tables}
 use Rattle.gv_sppgtt.proofs.Entered.{uses-other}
+use Rattle.gv_sppgtt.proofs.LiveCounts.{live-nodes}
 use Rattle.gv_sppgtt.proofs.Outside.{stands-shadow, memory-shadow, shadow-poked}
 
 module _ (d e : Device) (placed : Placed) (t u : Tables) (pins : List ℕ) (level frame page index value : ℕ) (h : Holds d placed t pins)
@@ -43,6 +44,7 @@ module _ (d e : Device) (placed : Placed) (t u : Tables) (pins : List ℕ) (leve
     memory = memory-shadow d e placed outside_same h.stands;
     outside = ap (λ (n : NodeMap). outside (tables_part placed.guest (own_in n)) e) nodes ∙ ap (outside (own_part placed.guest t)) step
         ∙ own-poked placed.guest (own_in t.nodes) d page index value (h.sound.local.labelled level frame page node) (page-own t.nodes level frame page node);
+    live = live-nodes (length placed.pages) d e t.nodes u.nodes (ap (λ (x : Device). x.live) step) nodes;
     guest = guest;
     told = told;
     pins = exact;

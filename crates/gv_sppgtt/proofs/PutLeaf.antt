@@ -12,7 +12,7 @@ use Rattle.gv_rmap.specs.Chains.{ReverseMap, chain_of}
 use Rattle.gv_shape.specs.Shadow.{Readings, Names, shadow_label, has_leaves}
 use Rattle.gv_shape.specs.Counts.{total, uses, maps, one_if, leaves, names_node, namings, above}
 use Rattle.gv_shape.proofs.Totals.{total-at, total-bound}
-use Rattle.gv_sppgtt.specs.Sound.{decode, reading_at, readings_in, pages_in, flag, Pinned, Enters, Sound, IsLinked, place_leaf}
+use Rattle.gv_sppgtt.specs.Sound.{AreInOrder, decode, reading_at, readings_in, pages_in, flag, Pinned, Enters, Sound, IsLinked, place_leaf}
 use Rattle.gv_sppgtt.proofs.Decoded.{leaf-page, decode-leaf}
 use Rattle.gv_sppgtt.proofs.Entered.{enters, local-entered, boarded-entered, uses-entered, uses-other}
 use Rattle.gv_sppgtt.proofs.Leaves.{chained-entered}
@@ -134,15 +134,15 @@ module _ (d : Device) (placed : Placed) (nodes : NodeMap) (chains : ReverseMap) 
         (λ other. uses-other (length placed.pages) readings (readings_in written.words owned (pages_in nodes)) level table index e leaf-enters (sound.boarded.low level table page node).0 within (names_node k f) (above k) other)
         (cases_eq (above k) level)
 
-    pub leaf-sound : Sound written placed nodes after owned told
-    leaf-sound = record {
+    pub leaf-sound : AreInOrder after → Sound written placed nodes after owned told
+    leaf-sound ordered = record {
       frames = sound.frames;
       chains_long = long ∙ sound.chains_long;
       told_long = sound.told_long;
       owners_long = owned_long;
       boarded = boarded-entered d placed (length placed.pages) (pages_in nodes) (flag told) owners owned sound.boarded sound.local at_frames at_nodes level table page index value e node within stands_for form;
       local = local-entered d placed (length placed.pages) (pages_in nodes) (flag told) owners owned sound.boarded sound.local at_frames at_nodes level table page index value e node within stands_for form;
-      chained = chained-entered (pages_in nodes) readings (readings_in written.words owned (pages_in nodes)) chains after table page index e sound.boarded.apart level leafy node within leaf-enters sound.chained linked;
+      chained = chained-entered (pages_in nodes) readings (readings_in written.words owned (pages_in nodes)) chains after table page index e sound.boarded.apart level leafy node within leaf-enters sound.chained linked ordered;
       counted = λ k f some. rw (same_namings k f some) (sound.counted k f some);
     }
 

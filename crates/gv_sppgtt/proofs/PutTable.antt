@@ -18,6 +18,7 @@ use Rattle.gv_sppgtt.specs.declared.tables.Child.{Child}
 -- chains depend on the words of level 1 alone
 pub chained-kept : (pages : Pages) (old new : Readings) (chains : ReverseMap) → ((k f i : ℕ) → has_leaves k ≡ true → i < 512 → new k f i ≡ old k f i) → Chained pages old chains → Chained pages new chains
 chained-kept pages old new chains same c = record {
+  ordered = c.ordered;
   linked = λ k f p i h w leafy there small reads. c.linked k f p i h w leafy there small (sym (same k f i leafy small) ∙ reads);
   leaves = λ h q leaf at.
       let was = c.leaves h q leaf at in

@@ -1,5 +1,5 @@
 -- A node and its page are taken out: what is known of the tables.
-use Rattle.std.proofs.Common.{ℕ, ◌/◌, ◌≤◌, ◌<◌, ◌≡◌, true, false, List, None, Some, length, get_or, sym, ap, ◌∙◌, arith, ⊎_elim}
+use Rattle.std.proofs.Common.{ℕ, ◌/◌, ◌≤◌, ◌<◌, ◌≡◌, true, false, List, None, Some, length, get_or, refl, sym, ap, ◌∙◌, arith, ⊎_elim}
 use Rattle.std.proofs.lemmas.Bool.{cases_eq, false≢true}
 use Rattle.gv_entry.specs.declared.process.Process.TheVariants.{Absent}
 use Rattle.gv_gpu.specs.Device.{Device, released}
@@ -13,6 +13,7 @@ use Rattle.gv_sppgtt.specs.Holding.{Holds, Keeps}
 use Rattle.gv_sppgtt.specs.declared.tables.Tables.{Tables}
 use Rattle.gv_sppgtt.proofs.DropNode.{sound-gone, all-same, gone-uses, outside-gone}
 use Rattle.gv_sppgtt.proofs.Kept.{is_table-same}
+use Rattle.gv_sppgtt.proofs.LiveCounts.{live-less}
 use Rattle.gv_sppgtt.proofs.OwnPages.{own-others, own-released, page-own}
 use Rattle.gv_sppgtt.proofs.Outside.{stands-shadow, memory-shadow}
 use Rattle.gv_sppgtt.proofs.Room.{count-made}
@@ -61,6 +62,8 @@ module _ (d : Device) (placed : Placed) (t u : Tables) (pins : List ℕ) (level 
     memory = memory-shadow d after placed outside_same h.stands;
     outside = own-released placed.guest (own_in t.nodes) (own_in u.nodes) d page (h.sound.local.labelled level frame page node) (page-own t.nodes level frame page node)
         (λ q other. sym (own-others u.nodes t.nodes nodes h.nodes level frame page node here (λ k f apart. sym (others k f apart)) q other));
+    live = live-less (length placed.pages) d after (pages_of t) (pages_of u) refl
+        (count-made (pages_of u) level frame here one four (length placed.pages) h.few low (h.sound.boarded.whole level frame page node) (pages_of t) page node (λ k f apart. sym (others k f apart)));
     guest = guest;
     told = told;
     pins = λ q.

@@ -18,17 +18,17 @@ total-below (suc n) k b f low small most =
     (λ other. let rest = total-below n k b f (omega arith) small most in let last = most n in grind arith)
     (cases_eq k n)
 
-one_most : (b : Bool) → one_if b ≤ 1
+pub one_most : (b : Bool) → one_if b ≤ 1
 one_most true = omega arith
 one_most false = omega arith
 
-four_most : (pages : Pages) (f : ℕ) → nodes_of pages f ≤ 4
+pub four_most : (pages : Pages) (f : ℕ) → nodes_of pages f ≤ 4
 four_most pages f =
     let a = one_most (is_some (pages 1 f)) in let b = one_most (is_some (pages 2 f)) in
     let c = one_most (is_some (pages 3 f)) in let d = one_most (is_some (pages 4 f)) in
     omega arith
 
-two_most : (pages : Pages) (j : ℕ) → splits_of pages j ≤ 2
+pub two_most : (pages : Pages) (j : ℕ) → splits_of pages j ≤ 2
 two_most pages j = let a = one_most (is_some (pages 5 (j * 512))) in let b = one_most (is_some (pages 6 (j * 512))) in omega arith
 
 module _ (pages : Pages) (level frame : ℕ) (absent : pages level frame ≡ None) (one : 1 ≤ level) (six : level ≤ 6) (frames : ℕ) (few : frames ≤ 16384) (low : frame < frames) (whole : IsWhole frames level frame) where

@@ -4,7 +4,7 @@ use Rattle.gv_gpu.specs.Device.{Device}
 use Rattle.gv_gpu.specs.Part.{outside}
 use Rattle.gv_guest.specs.Placed.{Placed, Hosts, memory_in}
 use Rattle.gv_nodes.specs.NodeMap.{AreNodes}
-use Rattle.gv_sppgtt.specs.State.{IsSound, IsPinned, HasRoom, own_part, is_table, pages_of, readings_of}
+use Rattle.gv_sppgtt.specs.State.{IsSound, IsPinned, HasRoom, LiveFollows, own_part, is_table, pages_of, readings_of}
 use Rattle.gv_shape.specs.Counts.{leaves}
 use Rattle.gv_sppgtt.specs.Sound.{flag}
 use Rattle.gv_sppgtt.specs.declared.tables.Tables.{Tables}
@@ -18,11 +18,12 @@ pub record Holds (d : Device) (placed : Placed) (t : Tables) (pins : List ℕ) :
   pub nodes : AreNodes t.nodes
   pub room : HasRoom d placed t
 
--- Memory is as it was, and so is all of the device but the nodes' pages, and what the caller was told. Pins move
--- with the leaves; and outside of touched blocks each frame is a table as before.
+-- Memory is as it was, and so is all of the device but the nodes' pages, and what the caller was told. Live pages
+-- move with the nodes, and pins with the leaves; and outside of touched blocks each frame is a table as before.
 pub record Keeps (placed : Placed) (d e : Device) (t u : Tables) (held moved : List ℕ) : Type 0 where
   pub memory : memory_in e placed ≡ memory_in d placed
   pub outside : outside (own_part placed.guest u) e ≡ outside (own_part placed.guest t) d
+  pub live : LiveFollows (length placed.pages) d e (pages_of t) (pages_of u)
   pub guest : u.guest ≡ t.guest
   pub told : u.told ≡ t.told
   pub pins : (h : ℕ) → slice_index moved h + leaves (length placed.pages) (readings_of d t) h ≡ slice_index held h + leaves (length placed.pages) (readings_of e u) h

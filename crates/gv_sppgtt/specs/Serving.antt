@@ -1,15 +1,19 @@
 -- What the layer above sees of the tables, and what holds between its calls.
-use Rattle.std.specs.Prelude.{ℕ, ◌+◌, ◌*◌, ◌^◌, ◌<◌, ◌≤◌, ◌≡◌, Bool, false, not, ◌&&◌, ◌||◌, ◌==◌, nat_lt, if◌then◌else◌, is_some, List, filter, length, slice_index}
+use Rattle.std.specs.Prelude.{ℕ, ◌+◌, ◌*◌, ◌^◌, ◌<◌, ◌≤◌, ◌≡◌, Bool, true, false, not, ◌&&◌, ◌||◌, ◌==◌, nat_lt, if◌then◌else◌, is_some, List, filter, length, slice_index, Some}
 use Rattle.std.specs.List.{range_with_len}
 use Rattle.gv_types.specs.Memory.{Memory}
 use Rattle.gv_entry.specs.Tables.{words_of, has_bad_entry}
+use Rattle.gv_entry.specs.declared.process.Process.TheVariants.{Page}
 use Rattle.gv_gpu.specs.Device.{Device}
 use Rattle.gv_gpu.specs.Part.{outside}
 use Rattle.gv_guest.specs.Placed.{Placed, Hosts, memory_in}
+use Rattle.gv_rmap.specs.declared.leaf.Leaf.{Leaf}
+use Rattle.gv_rmap.specs.Chains.{chain_of}
+use Rattle.gv_shape.specs.Shadow.{has_leaves, wanted}
 use Rattle.gv_shape.specs.Counts.{is_among, leaves}
 use Rattle.gv_sppgtt.specs.Sound.{flag}
 use Rattle.gv_sppgtt.specs.Grown.{Rests}
-use Rattle.gv_sppgtt.specs.State.{pages_of, readings_of, sketch_of, own_part, is_table}
+use Rattle.gv_sppgtt.specs.State.{pages_of, readings_of, sketch_of, LiveFollows, own_part, is_table}
 use Rattle.gv_sppgtt.specs.Holding.{Holds}
 use Rattle.gv_sppgtt.specs.declared.tables.Tables.{Tables}
 
@@ -21,6 +25,18 @@ roots_of t = filter (λ frame. is_some (pages_of t 4 frame)) (range_with_len 0 t
 abbrev pub guarded_of : Tables → ℕ → Bool
 guarded_of t frame = flag t.told.items frame
 
+-- the leaves that map a frame, by their keys
+abbrev pub chain_in : Tables → ℕ → List Leaf
+chain_in t frame = chain_of t.chains frame
+
+-- A leaf is the word of a table of leaves whose entry, in the guest's own tables or as a place in one of their large
+-- pages, maps the frame.
+pub record IsMapping (m : Memory) (t : Tables) (level table frame : ℕ) (leaf : Leaf) : Type 0 where
+  pub leaves : has_leaves level ≡ true
+  pub node : pages_of t level table ≡ Some leaf.page
+  pub within : leaf.index < 512
+  pub maps : wanted m level table leaf.index ≡ Page frame leaf.writable
+
 -- The shadow tables stand in the device for these words of memory: nothing is left to do for any word, and the
 -- caller was told of each frame that is a table.
 pub record Serves (d : Device) (placed : Placed) (pins : List ℕ) (t : Tables) (m : Memory) : Type 0 where
@@ -29,10 +45,12 @@ pub record Serves (d : Device) (placed : Placed) (pins : List ℕ) (t : Tables) 
   pub told : (frame : ℕ) → guarded_of t frame ≡ is_table (pages_of t) frame
   pub untouched : (block : ℕ) → flag t.touched block ≡ false
 
--- what a call leaves, whatever it answers: memory, and all of the device but the nodes' pages; pins move with leaves
+-- What a call leaves, whatever it answers: memory, and all of the device but the nodes' pages. Live pages move with
+-- the nodes, and pins with the leaves.
 pub record ChangesTables (placed : Placed) (d e : Device) (t u : Tables) (held moved : List ℕ) : Type 0 where
   pub memory : memory_in e placed ≡ memory_in d placed
   pub others : outside (own_part placed.guest u) e ≡ outside (own_part placed.guest t) d
+  pub live : LiveFollows (length placed.pages) d e (pages_of t) (pages_of u)
   pub guest : u.guest ≡ t.guest
   pub pins : (h : ℕ) → slice_index moved h + leaves (length placed.pages) (readings_of d t) h ≡ slice_index held h + leaves (length placed.pages) (readings_of e u) h
 

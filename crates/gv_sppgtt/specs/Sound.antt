@@ -7,7 +7,7 @@ use Rattle.gv_guest.specs.Placed.{Placed}
 use Rattle.gv_nodes.specs.declared.nodes.Node.{Node}
 use Rattle.gv_nodes.specs.NodeMap.{NodeMap}
 use Rattle.gv_rmap.specs.declared.leaf.Leaf.{Leaf}
-use Rattle.gv_rmap.specs.Leaves.{leaf_at, key}
+use Rattle.gv_rmap.specs.Leaves.{leaf_at, key, IsInOrder}
 use Rattle.gv_rmap.specs.Chains.{ReverseMap, chain_of}
 use Rattle.gv_sppgtt.specs.declared.tables.Child.{Child}
 use Rattle.gv_sppgtt.specs.declared.tables.Word.{Word}
@@ -64,8 +64,13 @@ pub record Boarded (d : Device) (frames : ℕ) (pages : Pages) (owners : List �
   pub apart : (k f j g p : ℕ) → pages k f ≡ Some p → pages j g ≡ Some p → (k ≡ j) × (f ≡ g)
   pub owner : (k f p : ℕ) → pages k f ≡ Some p → slice_index owners p ≡ f
 
+-- each chain in the order of its keys, so that no key comes twice
+abbrev pub AreInOrder : ReverseMap → Type 0
+AreInOrder chains = (h : ℕ) → IsInOrder (chain_of chains h)
+
 -- the chains are the leaves
 pub record Chained (pages : Pages) (readings : Readings) (chains : ReverseMap) : Type 0 where
+  pub ordered : AreInOrder chains
   pub linked : (k f p i h : ℕ) (w : Bool) → has_leaves k ≡ true → pages k f ≡ Some p → i < 512 → readings k f i ≡ Page h w → leaf_at (chain_of chains h) (p * 2 ^ 16 + i) ≡ Some (leaf_of p i w)
   pub leaves : (h q : ℕ) (leaf : Leaf) → leaf_at (chain_of chains h) q ≡ Some leaf → (k f : ℕ) × ((has_leaves k ≡ true) × ((pages k f ≡ Some leaf.page) × ((leaf.index < 512) × ((q ≡ key leaf) × (readings k f leaf.index ≡ Page h leaf.writable)))))
 

@@ -1,5 +1,5 @@
 -- The state of the tables as their code holds it.
-use Rattle.std.specs.Prelude.{ℕ, ◌+◌, ◌*◌, ◌/◌, ◌≤◌, ◌≡◌, Bool, true, false, ◌||◌, is_some, List, [], ◌∷◌, flat_map, length, Option, None, Some}
+use Rattle.std.specs.Prelude.{ℕ, ◌+◌, ◌-◌, ◌*◌, ◌/◌, ◌≤◌, ◌≡◌, Bool, true, false, ◌||◌, is_some, List, [], ◌∷◌, flat_map, length, Option, None, Some}
 use Rattle.std.specs.FinMap.{keys}
 use Rattle.gv_gpu.specs.Device.{Device}
 use Rattle.gv_guest.specs.Placed.{Placed}
@@ -33,6 +33,12 @@ sketch_of d t = record { pages = pages_of t; parents = parents_of t; readings = 
 -- there is room for all the nodes that a guest can have
 abbrev pub HasRoom : Device → Placed → Tables → Type 0
 HasRoom d placed t = d.live + (4 * length placed.pages + 64) ≤ 131072 + count_of (length placed.pages) (pages_of t)
+
+-- The live pages besides those of the nodes are as many as before. So where the nodes' pages were counted among the
+-- live ones, the live pages changed exactly with the nodes.
+pub record LiveFollows (frames : ℕ) (d e : Device) (old new : Pages) : Type 0 where
+  pub others : e.live - count_of frames new ≡ d.live - count_of frames old
+  pub exact : count_of frames old ≤ d.live → e.live + count_of frames old ≡ d.live + count_of frames new
 
 -- the shadow pages of a guest
 abbrev pub shadow_part : ℕ → Part

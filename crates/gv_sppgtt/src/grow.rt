@@ -75,7 +75,20 @@ impl Tables {
         self.nodes.add_parent(key);
     }
 
-    // Makes a node with one parent, all of whose words are absent, and answers its page.
+    // Takes memory for the leaves of a table of leaves.
+    fn reserve_leaves(&mut self, level: u8) -> Result<(), OutOfMemory>
+        ensures others { self.new ≡ record self.old { chains = self.new.chains } }
+        ensures chains { self.new.chains.chains ≡ self.old.chains.chains }
+        ensures spare { OnOk result (has_leaves level ≡ true → 512 ≤ self.new.chains.spare) }
+    {
+        if level == 1 || level > 4 {
+            self.chains.reserve(512)?;
+        }
+        Ok(())
+    }
+
+    // Makes a node with one parent, all of whose words are absent, and answers its page. The memory for its leaves is
+    // taken with it, so that none is taken between the pokes of its words.
     fn make<G: Gpu>(
         &mut self,
         gpu: &mut G,
@@ -91,6 +104,32 @@ impl Tables {
         requires high { level ≤ 6 }
         requires absent { pages_of self.old level frame ≡ None }
         ensures made { IfOk result (λ page. Made level frame page (sketch_of (G.state gpu.old) self.old) (sketch_of (G.state gpu.new) self.new)) }
+        ensures spare { OnOk result (has_leaves level ≡ true → 512 ≤ self.new.chains.spare) }
+        ensures holds { Holds (G.state gpu.new) frames.now self.new pins.now }
+        ensures keeps { Keeps frames.now (G.state gpu.old) (G.state gpu.new) self.old self.new pins.now pins.now }
+    {
+        self.reserve_leaves(level)?;
+        let page = self.make_node(gpu, frames, pins, frame, level)?;
+        Ok(page)
+    }
+
+    // The same, without memory for leaves.
+    fn make_node<G: Gpu>(
+        &mut self,
+        gpu: &mut G,
+        frames: &Frames,
+        pins: &Pins,
+        frame: u32,
+        level: u8,
+    ) -> Result<u64, OutOfMemory>
+        requires holds { Holds (G.state gpu.old) frames.now self.old pins.now }
+        requires frame { frame < length frames.now.pages }
+        requires whole { IsWhole (length frames.now.pages) level frame }
+        requires low { 1 ≤ level }
+        requires high { level ≤ 6 }
+        requires absent { pages_of self.old level frame ≡ None }
+        ensures made { IfOk result (λ page. Made level frame page (sketch_of (G.state gpu.old) self.old) (sketch_of (G.state gpu.new) self.new)) }
+        ensures chains { OnOk result (self.new.chains ≡ self.old.chains) }
         ensures holds { Holds (G.state gpu.new) frames.now self.new pins.now }
         ensures keeps { Keeps frames.now (G.state gpu.old) (G.state gpu.new) self.old self.new pins.now pins.now }
     {
@@ -128,7 +167,7 @@ impl Tables {
         Some(self.nodes.node(key).page)
     }
 
-    // Maps a frame by a word of a table of leaves that is absent.
+    // Maps a frame by a word of a table of leaves that is absent. The memory for it was taken with the table.
     fn fill_leaf<G: Gpu>(
         &mut self,
         gpu: &mut G,
@@ -140,7 +179,7 @@ impl Tables {
         index: u16,
         to: u32,
         writable: bool,
-    ) -> Result<(), OutOfMemory>
+    )
         requires holds { Holds (G.state gpu.old) frames.now self.old pins.old }
         requires leaves { has_leaves level ≡ true }
         requires within { index < 512 }
@@ -148,11 +187,12 @@ impl Tables {
         requires absent { readings_of (G.state gpu.old) self.old level frame index ≡ Absent }
         requires frame { to < length frames.now.pages }
         requires entry { wanted (memory_in (G.state gpu.old) frames.now) level frame index ≡ Page to writable }
-        ensures filled { OnOk result (Filled (length frames.now.pages) (memory_in (G.state gpu.old) frames.now) level frame index (sketch_of (G.state gpu.old) self.old) (sketch_of (G.state gpu.new) self.new)) }
+        requires spare { 1 ≤ self.old.chains.spare }
+        ensures filled { Filled (length frames.now.pages) (memory_in (G.state gpu.old) frames.now) level frame index (sketch_of (G.state gpu.old) self.old) (sketch_of (G.state gpu.new) self.new) }
+        ensures spare { self.old.chains.spare ≤ self.new.chains.spare + 1 }
         ensures holds { Holds (G.state gpu.new) frames.now self.new pins.new }
         ensures keeps { Keeps frames.now (G.state gpu.old) (G.state gpu.new) self.old self.new pins.old pins.new }
     {
-        self.chains.reserve(1)?;
         self.put_leaf(
             gpu,
             frames,
@@ -163,7 +203,6 @@ impl Tables {
             index,
             Some((to, writable)),
         );
-        Ok(())
     }
 
     // Names a node by a word of a table above that is absent.
@@ -300,8 +339,10 @@ impl Tables {
         requires whole { IsWhole (length frames.now.pages) level frame }
         requires node { pages_of self.old level frame ≡ Some page }
         requires absent { readings_of (G.state gpu.old) self.old level frame index ≡ Absent }
+        requires spare { has_leaves level ≡ true → 1 ≤ self.old.chains.spare }
         requires modest { (h lower : ℕ) → IsBelow (length frames.now.pages) level h lower → Modest (length frames.now.pages) lower (sketch_of (G.state gpu.old) self.old) }
         ensures filled { OnOk result (Filled (length frames.now.pages) (memory_in (G.state gpu.old) frames.now) level frame index (sketch_of (G.state gpu.old) self.old) (sketch_of (G.state gpu.new) self.new)) }
+        ensures spare { OnOk result (has_leaves level ≡ true → self.old.chains.spare ≤ self.new.chains.spare + 1) }
         ensures holds { Holds (G.state gpu.new) frames.now self.new pins.new }
         ensures keeps { Keeps frames.now (G.state gpu.old) (G.state gpu.new) self.old self.new pins.old pins.new }
         ensures good { IsErrOf result TableFault.BadEntry → level ≤ 4 }
@@ -311,7 +352,7 @@ impl Tables {
             Word::Nothing => Ok(()),
             Word::Refused => Err(TableFault::BadEntry),
             Word::Leaf(to, writable) => {
-                self.fill_leaf(gpu, frames, pins, frame, level, page, index, to, writable)?;
+                self.fill_leaf(gpu, frames, pins, frame, level, page, index, to, writable);
                 Ok(())
             }
             Word::Node(to, lower) => {

@@ -3,8 +3,6 @@
 //!
 //! A word of a node tells by itself what it stands for: each host page has an owner, a frame, and bits 2 and 3,
 //! which the device ignores, keep the guest's own writable bit of a leaf, and whether a table is a split one.
-//!
-//! The contract isn't final, and no test runs the calls yet.
 #![tactic(auto)]
 
 mod calls;
@@ -21,7 +19,8 @@ mod update;
 
 pub use changed::Changed;
 pub use laws::{
-    serving_tables_are_live, serving_tables_keep, serving_tables_shadow, serving_tables_stay,
-    serving_tables_tell,
+    serving_tables_are_live, serving_tables_chain, serving_tables_count, serving_tables_keep,
+    serving_tables_pin, serving_tables_serve_on, serving_tables_shadow, serving_tables_stay,
+    serving_tables_tell, tables_are_few,
 };
 pub use tables::{TableFault, Tables};

@@ -7,7 +7,7 @@ ghost use Rattle.gv_shape.specs.Shadow.{leaf_word, has_leaves, Names, Pages};
 ghost use Rattle.gv_shape.specs.Counts.{leaves, maps, one_if};
 ghost use Rattle.gv_gpu.specs.Device.{poked};
 ghost use Rattle.gv_guest.specs.Placed.{Hosts};
-ghost use Rattle.gv_sppgtt.specs.Sound.{decode, flag, leaf_of, leaf_entry, place_leaf, IsLinked, Enters};
+ghost use Rattle.gv_sppgtt.specs.Sound.{decode, flag, leaf_of, leaf_entry, place_leaf, AreInOrder, IsLinked, Enters};
 ghost use Rattle.gv_sppgtt.specs.State.{pages_of, readings_of, IsSound, IsPinned};
 
 use gv_gpu::Gpu;
@@ -104,6 +104,7 @@ impl Tables {
         requires named { (h : ℕ) (w : Bool) → decode self.old.owners.items 1 word ≡ Page h w → IsLinked self.old.owners.items self.old.chains pins.old word page index h w }
         requires lonely { (h : ℕ) (leaf : Leaf) → leaf_at (chain_of self.old.chains h) (page * 2 ^ 16 + index) ≡ Some leaf → decode self.old.owners.items 1 word ≡ Page h leaf.writable }
         ensures gone { (h q : ℕ) → leaf_at (chain_of self.new.chains h) q ≡ (if q == page * 2 ^ 16 + index then None else leaf_at (chain_of self.old.chains h) q) }
+        ensures order { AreInOrder self.old.chains → AreInOrder self.new.chains }
         ensures pins { (h : ℕ) → slice_index pins.new h + one_if (maps h (decode self.old.owners.items 1 word)) ≡ slice_index pins.old h }
         ensures spare { self.old.chains.spare ≤ self.new.chains.spare }
         ensures long { length self.new.chains.chains ≡ length self.old.chains.chains }
@@ -188,6 +189,7 @@ impl Tables {
         ensures named { (pages : Pages) → Names frames.now pages (flag self.old.told.items) 1 (leaf_entry leaf) result }
         ensures stands_for { decode self.new.owners.items 1 result ≡ leaf_entry leaf }
         ensures linked { (h q : ℕ) → leaf_at (chain_of self.new.chains h) q ≡ (if q == page * 2 ^ 16 + index then place_leaf page index h (leaf_entry leaf) else leaf_at (chain_of self.old.chains h) q) }
+        ensures order { AreInOrder self.old.chains → AreInOrder self.new.chains }
         ensures pins { (h : ℕ) → slice_index pins.new h ≡ slice_index pins.old h + one_if (maps h (leaf_entry leaf)) }
         ensures at_frames { (h : ℕ) → h < length frames.now.pages → slice_index self.old.owners.items (slice_index frames.now.pages h) ≡ h → slice_index self.new.owners.items (slice_index frames.now.pages h) ≡ h }
         ensures at_others { (q : ℕ) → ((h : ℕ) → h < length frames.now.pages → q ≡ slice_index frames.now.pages h → ⊥) → slice_index self.new.owners.items q ≡ slice_index self.old.owners.items q }
@@ -227,6 +229,7 @@ impl Tables {
         requires room { slice_index pins.old frame < 2 ^ 32 - 1 }
         ensures word { result ≡ leaf_word (slice_index frames.now.pages frame) writable (flag self.old.told.items frame) }
         ensures linked { (h q : ℕ) → leaf_at (chain_of self.new.chains h) q ≡ (if (h == frame) && (q == page * 2 ^ 16 + index) then Some (leaf_of page index writable) else leaf_at (chain_of self.old.chains h) q) }
+        ensures order { AreInOrder self.old.chains → AreInOrder self.new.chains }
         ensures pins { (h : ℕ) → slice_index pins.new h ≡ slice_index pins.old h + one_if (frame == h) }
         ensures spare { self.old.chains.spare ≤ self.new.chains.spare + 1 }
         ensures long { length self.new.chains.chains ≡ length self.old.chains.chains }

@@ -14,12 +14,13 @@ use Rattle.gv_sppgtt.specs.Grown.{Filled, Made}
 use Rattle.gv_sppgtt.specs.Holding.{Keeps}
 use Rattle.gv_sppgtt.specs.declared.tables.Tables.{Tables}
 use Rattle.gv_sppgtt.proofs.PutLeaf.{uses-most}
-use Rattle.gv_sppgtt.proofs.Kept.{keeps_trans}
+use Rattle.gv_sppgtt.proofs.Kept.{keeps-none, keeps_trans}
 use Rattle.gv_sppgtt.proofs.Held.{keeps-held, growing-held, holds-held}
 use Rattle.gv_sppgtt.proofs.Growing.{growing-made, growing-filled, filled-table, room-grown}
 use Rattle.gv_sppgtt.proofs.BadEntries.{bad-here, live-child, frame-words, table-is}
 use Rattle.gv_sppgtt.proofs.tables.Tables.+acquire.Goals as goal
-use Rattle.gv_shape.specs.Shadow.{wanted, is_live}
+use Rattle.gv_shape.specs.Shadow.{wanted, is_live, has_leaves}
+use Rattle.std.proofs.lemmas.Bool.Decides.{nat_tests}
 use Rattle.gv_shape.proofs.Levels.{wanted-low, naming-low, above-low}
 
 no_parents : (o : Option Node) → page_of_node o ≡ None → parents_of_node o ≡ 0
@@ -66,6 +67,7 @@ acquire-loop-index-init g t c =
       holds = p.holds;
       keeps = subst (λ (x : Tables). Keeps c.args.frames.now d e x u c.args.pins.now c.args.pins.now) none.1 p.keeps;
       there = made.here;
+      spare = λ leafy. let s = p.spare leafy in omega arith;
       grown = growing-made (length c.args.frames.now.pages) (memory_in d c.args.frames.now) c.args.level c.args.frame c.in_ok-page.page (sketch_of d old) (sketch_of e u)
           none.0 (no_parents (node_of old.nodes c.args.level c.args.frame) none.0) (λ i. ap (λ o. reading_at d.words old.owners.items c.args.level o i) none.0) made;
     }
@@ -87,9 +89,20 @@ acquire-loop-index-preserved g t c =
     record {
       holds = p.holds;
       keeps = keeps_trans placed d e f old u v c.args.pins.now c.loop-index.pins c.fill.new.pins was.keeps p.keeps;
+      spare = λ leafy. let a = was.spare leafy in let b = p.spare leafy in omega arith;
       there = filled.kept.pages c.args.level c.args.frame c.in_ok-page.page was.there;
       grown = growing-filled n (memory_in d placed) c.args.level c.args.frame c.loop-index.index (sketch_of d old) (sketch_of e u) (sketch_of f v) c.loop-index-test.true none.0 was.grown filled;
     }
+
+pub fill-fill_leaf-requires-clause-spare : goal.fill-fill_leaf-requires-clause-spare
+fill-fill_leaf-requires-clause-spare g t c = c.requires.spare c.in-Leaf.ensures.form.0
+
+-- a table of level 2 to 4 has no leaves
+no_leaves : (level : ℕ) → 2 ≤ level → level ≤ 4 → has_leaves level ≡ true → ⊥
+no_leaves level high few leafy = grind (arith, nat_tests)
+
+pub fill-returns-in-Ok-clause-spare : goal.fill-returns-in-Ok-clause-spare
+fill-returns-in-Ok-clause-spare g t c leafy = let below = c.in-Node.ensures.form in absurd (no_leaves c.args.level below.high below.four leafy)
 
 same_fault : (x y : TableFault) → ◌≡◌ {A = Result (Unit {0}) TableFault} (Err x) (Err y) → x ≡ y
 same_fault x y e = cc
@@ -142,3 +155,17 @@ fill-returns-in-Ok-clause-filled g t c =
     filled-table (length c.args.frames.now.pages) (memory_in d c.args.frames.now) c.args.level c.args.frame c.args.index (naming c.in-Node.lower c.in-Node.to)
     (sketch_of d c.args.self.now) (sketch_of e c.acquire.new.self) (sketch_of f c.fill_table.new.self) c.requires.frame c.requires.within c.requires.absent (sym c.in-Node.ensures.is)
     (ap pages_of p.same) (ap parents_of p.same) p.enters c.in-Node.to c.in-Node.lower refl c.in-Node.ensures.form c.args.page c.requires.node c.in-Ok.ensures.grown
+
+pub fill-returns-in-Ok-clause-keeps : goal.fill-returns-in-Ok-clause-keeps
+fill-returns-in-Ok-clause-keeps g t c =
+    let d = g.G.Gpu.state c.args.gpu.now in
+    let e = g.G.Gpu.state c.acquire.new.gpu in
+    let f = g.G.Gpu.state c.fill_table.new.gpu in
+    let pins = c.acquire.new.pins in
+    keeps_trans c.args.frames.now d e f c.args.self.now c.acquire.new.self c.fill_table.new.self c.args.pins.now pins pins c.in-Ok.ensures.keeps c.fill_table.ensures.keeps
+
+pub fill-returns-in-Nothing-clause-keeps : goal.fill-returns-in-Nothing-clause-keeps
+fill-returns-in-Nothing-clause-keeps g t c = keeps-none c.args.frames.now (g.G.Gpu.state c.args.gpu.now) c.args.self.now c.args.pins.now
+
+pub fill-returns-in-Refused-clause-keeps : goal.fill-returns-in-Refused-clause-keeps
+fill-returns-in-Refused-clause-keeps g t c = keeps-none c.args.frames.now (g.G.Gpu.state c.args.gpu.now) c.args.self.now c.args.pins.now

@@ -1,4 +1,5 @@
-use Rattle.std.proofs.Common.{◌≡◌, ◌+◌, ◌*◌, Some, length}
+use Rattle.std.proofs.Common.{◌≡◌, ◌≤◌, ◌+◌, ◌*◌, true, Some, length}
+use Rattle.gv_shape.specs.Shadow.{has_leaves}
 use Rattle.gv_guest.specs.Placed.{memory_in}
 use Rattle.gv_sppgtt.specs.State.{pages_of, sketch_of}
 use Rattle.gv_sppgtt.specs.Grown.{Growing}
@@ -21,5 +22,6 @@ invariant-acquire-loop-index g l =
       holds : Holds now l.frames l.self l.pins;
       keeps : Keeps l.frames start now l.fn.self l.self l.fn.pins l.pins;
       there : pages_of l.self l.level l.frame ≡ Some l.page;
+      spare : has_leaves l.level ≡ true → 512 ≤ l.self.chains.spare + l.index;
       grown : Growing (length l.frames.pages) (memory_in start l.frames) l.level l.frame l.index (sketch_of start l.fn.self) (sketch_of now l.self);
     }

@@ -6,6 +6,7 @@ use Rattle.gv_sppgtt.specs.declared.tables.TableFault.{TableFault}
 use Rattle.gv_sppgtt.specs.declared.tables.TableFault.TheVariants.{BadEntry}
 use Rattle.gv_sppgtt.proofs.Relinked.{acquired-table}
 use Rattle.gv_sppgtt.proofs.BadEntries.{bad-here, live-child, frame-words, table-is}
+use Rattle.gv_sppgtt.proofs.Kept.{keeps-none}
 use Rattle.gv_sppgtt.proofs.tables.Tables.acquire_entry.Goals as goal
 use Rattle.gv_sppgtt.proofs.Growing.{room-grown}
 use Rattle.gv_shape.proofs.Levels.{wanted-low, naming-low, above-low}
@@ -56,3 +57,9 @@ returns-in-Refused-clause-bad g c is roots live =
 
 pub acquire-requires-clause-modest : goal.acquire-requires-clause-modest
 acquire-requires-clause-modest g c k f one near = c.requires.modest c.in-Node.to c.in-Node.lower c.in-Node.ensures.form k f one near
+
+pub returns-in-Nothing-clause-keeps : goal.returns-in-Nothing-clause-keeps
+returns-in-Nothing-clause-keeps g c = keeps-none c.args.frames.now (g.G.Gpu.state c.args.gpu.now) c.args.self.now c.args.pins.now
+
+pub returns-in-Refused-clause-keeps : goal.returns-in-Refused-clause-keeps
+returns-in-Refused-clause-keeps g c = keeps-none c.args.frames.now (g.G.Gpu.state c.args.gpu.now) c.args.self.now c.args.pins.now

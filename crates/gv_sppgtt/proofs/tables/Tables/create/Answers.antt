@@ -1,6 +1,7 @@
 use Rattle.std.proofs.Common.{length, sym, ◌∙◌, arith}
 use Rattle.gv_sppgtt.specs.Serving.{guarded_of}
 use Rattle.gv_sppgtt.proofs.Served.{with-there, good-there, tells-none}
+use Rattle.gv_sppgtt.proofs.Changes.{changes-none}
 use Rattle.gv_sppgtt.proofs.tables.Tables.create.Goals as goal
 
 pub returns-then-has_node-clause-roots : goal.returns-then-has_node-clause-roots
@@ -16,3 +17,6 @@ returns-then-has_node-clause-good g c =
 
 pub returns-then-has_node-clause-stay : goal.returns-then-has_node-clause-stay
 returns-then-has_node-clause-stay g c k f q is = is
+
+pub returns-then-has_node-clause-changes : goal.returns-then-has_node-clause-changes
+returns-then-has_node-clause-changes g c = changes-none c.args.memory.now.frames (g.G.Gpu.state c.args.gpu.now) c.args.self.now c.args.memory.now.pins

@@ -7,6 +7,14 @@ use Rattle.gv_sppgtt.proofs.tables.Tables.drop_all.Goals as goal
 pub drop_level-requires-clause-top : goal.drop_level-requires-clause-top
 drop_level-requires-clause-top g c frame other = absurd (other refl)
 
+-- the levels above a split table's have gone before
+pub drop_level-requires-6-clause-top : goal.drop_level-requires-6-clause-top
+drop_level-requires-6-clause-top g c frame other =
+    let d = c.drop_level-3 in
+    let e = c.drop_level-4 in
+    let f = c.drop_level-5 in
+    none-within (pages_of f.new.self) (pages_of e.new.self) f.ensures.within 2 frame (none-within (pages_of e.new.self) (pages_of d.new.self) e.ensures.within 2 frame (d.ensures.none frame))
+
 pub returns-clause-none : goal.returns-clause-none
 returns-clause-none g c =
     let a = c.drop_level in

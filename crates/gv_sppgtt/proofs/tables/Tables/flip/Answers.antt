@@ -1,12 +1,13 @@
 use Rattle.std.specs.List.{All}
 use Rattle.std.specs.Option.{IsSome}
 use Rattle.std.specs.Vec.{with_item}
+use Rattle.std.proofs.lemmas.List.{append-nil}
 use Rattle.gv_rmap.specs.declared.leaf.Leaf.{Leaf}
 use Rattle.gv_rmap.specs.Leaves.{leaf_at, key, HasEachOnce}
 use Rattle.gv_rmap.specs.Chains.{chain_of}
 use Rattle.gv_sppgtt.proofs.Outside.{memory-shadow}
-use Rattle.std.proofs.Common.{◌≡◌, ◌<◌, List, Option, None, Some, sym, ◌∙◌, refl, subst}
-use Rattle.gv_sppgtt.proofs.Flips.{Flipping, known, flip-step, flip-holds}
+use Rattle.std.proofs.Common.{◌≡◌, ◌+◌, ◌<◌, ◌≤◌, arith, filter, length, List, Option, None, Some, sym, ◌∙◌, refl, subst}
+use Rattle.gv_sppgtt.proofs.Flips.{Flipping, known, flip-next, flip-holds}
 use Rattle.gv_sppgtt.proofs.tables.Tables.flip.Goals as goal
 
 pub loop-leaf-init : goal.loop-leaf-init
@@ -20,14 +21,15 @@ loop-leaf-init g c =
       outside = refl;
       own = refl;
       live = refl;
+      pokes = omega arith;
     }
 
 -- the walk has each leaf of the chain
 known_leaf : (c : List Leaf) (w : List Leaf) → w ≡ c → HasEachOnce c w → All (λ l. leaf_at c (key l) ≡ Some l) c
 known_leaf c w is each = subst (λ (x : List Leaf). All (λ l. leaf_at c (key l) ≡ Some l) x) is each.no_other
 
-pub poke-requires-clause-live : goal.poke-requires-clause-live
-poke-requires-clause-live g c =
+pub guard_leaf-requires-clause-live : goal.guard_leaf-requires-clause-live
+guard_leaf-requires-clause-live g c =
     let start = g.G.Gpu.state c.args.gpu.now in
     let now = g.G.Gpu.state c.loop-leaf.gpu in
     let t = c.args.self.now in
@@ -41,8 +43,8 @@ poke-requires-clause-live g c =
     some_is (Some y) x e = refl
     some_is None x e = cc
 
-pub poke-requires-clause-within : goal.poke-requires-clause-within
-poke-requires-clause-within g c =
+pub guard_leaf-requires-clause-within : goal.guard_leaf-requires-clause-within
+guard_leaf-requires-clause-within g c =
     let start = g.G.Gpu.state c.args.gpu.now in
     let now = g.G.Gpu.state c.loop-leaf.gpu in
     let t = c.args.self.now in
@@ -59,7 +61,7 @@ loop-leaf-preserved g c =
     let leaf = c.in-Some.leaf in
     let inv = subst (λ (r : List Leaf). Flipping start now c.args.frames.now t c.args.frame c.args.guarded c.loop-leaf.yielded r) c.in-Some.ensures.steps c.loop-leaf.invariant in
     let all = known_leaf (chain_of t.chains c.args.frame) c.walk-leaf-items.result c.walk-leaf-items.ensures.leaves c.walk-leaf-items.ensures.each_once in
-    rw (c.poke.ensures, c.leaf_word.ensures, c.page-host.ensures) (flip-step start now c.args.frames.now t c.args.pins.now c.args.frame c.args.guarded c.requires.holds c.loop-leaf.yielded c.next.new.self leaf inv all)
+    rw (c.guard_leaf.ensures, c.page-host.ensures) (flip-next start now c.args.frames.now t c.args.pins.now c.args.frame c.args.guarded c.requires.holds c.loop-leaf.yielded c.next.new.self leaf inv all)
 
 pub returns-clause-holds : goal.returns-clause-holds
 returns-clause-holds g c =
@@ -72,3 +74,12 @@ returns-clause-holds g c =
 
 pub returns-clause-memory : goal.returns-clause-memory
 returns-clause-memory g c = memory-shadow (g.G.Gpu.state c.args.gpu.now) (g.G.Gpu.state c.loop-leaf.gpu) c.args.frames.now c.loop-leaf.invariant.outside c.requires.holds.stands
+
+pub returns-clause-pokes : goal.returns-clause-pokes
+returns-clause-pokes g c =
+    let start = g.G.Gpu.state c.args.gpu.now in
+    let now = g.G.Gpu.state c.loop-leaf.gpu in
+    let t = c.args.self.now in
+    let inv = subst (λ (r : List Leaf). Flipping start now c.args.frames.now t c.args.frame c.args.guarded c.loop-leaf.yielded r) c.in-None.ensures.steps.0 c.loop-leaf.invariant in
+    let whole : c.loop-leaf.yielded ≡ chain_of t.chains c.args.frame = sym (append-nil c.loop-leaf.yielded) ∙ inv.split in
+    subst (λ (l : List Leaf). now.pokes ≤ start.pokes + length (filter (λ leaf. leaf.writable) l)) whole inv.pokes

@@ -12,6 +12,7 @@ use Rattle.gv_sppgtt.specs.declared.tables.TableFault.TheVariants.{BadEntry}
 use Rattle.gv_sppgtt.specs.declared.changed.Changed.{Changed}
 use Rattle.gv_sppgtt.proofs.Serving.{roots-self}
 use Rattle.gv_sppgtt.proofs.Served.{rests-word, done-serves, done-roots, done-tells, done-good}
+use Rattle.gv_sppgtt.proofs.Changes.{changes-kept, changes_trans}
 use Rattle.gv_sppgtt.proofs.tables.Tables.follow.Goals as goal
 
 same_fault : (x y : TableFault) → ◌≡◌ {A = Result Changed TableFault} (Err x) (Err y) → x ≡ y
@@ -97,3 +98,22 @@ returns-clause-pokes g c same =
     let few = made.0 in
     let still = ap (λ (x : Device). x.pokes) idle in
     (omega arith, λ k f. pages k f ∙ made.1 k f)
+
+pub returns-in-Err-clause-changes : goal.returns-in-Err-clause-changes
+returns-in-Err-clause-changes g c = changes-kept c.args.frames.now (g.G.Gpu.state c.args.gpu.now) (g.G.Gpu.state c.update.new.gpu) c.args.self.now c.update.new.self c.args.pins.now c.update.new.pins c.in-Err.ensures.keeps
+
+pub returns-in_err-changed-clause-changes : goal.returns-in_err-changed-clause-changes
+returns-in_err-changed-clause-changes g c =
+    let d = g.G.Gpu.state c.args.gpu.now in
+    let e = g.G.Gpu.state c.update.new.gpu in
+    let f = g.G.Gpu.state c.tell.new.gpu in
+    changes_trans c.args.frames.now d e f c.args.self.now c.update.new.self c.tell.new.self c.args.pins.now c.update.new.pins c.update.new.pins
+    (changes-kept c.args.frames.now d e c.args.self.now c.update.new.self c.args.pins.now c.update.new.pins c.in_default.ensures.keeps) c.in_err-changed.ensures.changes
+
+pub returns-clause-changes : goal.returns-clause-changes
+returns-clause-changes g c =
+    let d = g.G.Gpu.state c.args.gpu.now in
+    let e = g.G.Gpu.state c.update.new.gpu in
+    let f = g.G.Gpu.state c.tell.new.gpu in
+    changes_trans c.args.frames.now d e f c.args.self.now c.update.new.self c.tell.new.self c.args.pins.now c.update.new.pins c.update.new.pins
+    (changes-kept c.args.frames.now d e c.args.self.now c.update.new.self c.args.pins.now c.update.new.pins c.in_default.ensures.keeps) c.in_ok-changed.ensures.changes

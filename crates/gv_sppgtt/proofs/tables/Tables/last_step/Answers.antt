@@ -6,6 +6,7 @@ use Rattle.gv_sppgtt.specs.State.{pages_of, sketch_of}
 use Rattle.gv_sppgtt.proofs.Relinked.{rests-skipped}
 use Rattle.gv_sppgtt.proofs.Resting.{rests-live}
 use Rattle.gv_sppgtt.proofs.BadEntries.{bad-here, frame-words}
+use Rattle.gv_sppgtt.proofs.Kept.{keeps-none}
 use Rattle.gv_sppgtt.proofs.tables.Tables.last_step.Goals as goal
 
 pub returns-in_default-clause-rests : goal.returns-in_default-clause-rests
@@ -26,3 +27,6 @@ returns-clause-pokes g c =
     let role : one_if (is_some (pages_of c.args.self.now 1 c.args.frame)) ≡ 1 = ap (λ o. one_if (is_some o)) c.in-Some.ensures.some in
     let p = c.relink_leaf.ensures.pokes in
     on_both c.relink_leaf.result (λ pokes other. omega (arith, pokes, role)) p p
+
+pub returns-in_default-clause-keeps : goal.returns-in_default-clause-keeps
+returns-in_default-clause-keeps g c = keeps-none c.args.frames.now (g.G.Gpu.state c.args.gpu.now) c.args.self.now c.args.pins.now

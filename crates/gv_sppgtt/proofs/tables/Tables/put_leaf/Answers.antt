@@ -51,7 +51,7 @@ returns-clause-sound g c =
     (leaf-sound d c.args.frames.now t.nodes t.chains t.owners.items t.told.items c.requires.stands c.requires.sound
     c.args.table c.args.level c.args.page c.args.index c.enter_leaf-value.result (leaf_entry c.args.leaf) (nothing c.args.leaf) c.requires.leaves n.chains n.owners.items c.requires.node c.requires.within
     (at_level c.args.frames.now (pages_in t.nodes) (flag t.told.items) c.args.level c.requires.leaves c.args.leaf c.enter_leaf-value.result (rw took.told at (put.named (pages_in t.nodes)))) (decode-leaf n.owners.items c.args.level c.enter_leaf-value.result c.requires.leaves ∙ put.stands_for) (linked_at t.chains m.chains n.chains c.args.page c.args.index (leaf_entry c.args.leaf) took.gone put.linked)
-    (rw took.owners at put.at_frames) (rw took.owners at put.at_others) (put.long ∙ took.long) put.owners)
+    (rw took.owners at put.at_frames) (rw took.owners at put.at_others) (put.long ∙ took.long) put.owners (put.order (took.order c.requires.sound.chained.ordered)))
 
 pub returns-clause-enters : goal.returns-clause-enters
 returns-clause-enters g c =

@@ -16,6 +16,12 @@ use Rattle.gv_shape.specs.Shadow.{Pages}
 use Rattle.gv_shape.proofs.Levels.{rank-below}
 use Rattle.gv_sppgtt.specs.declared.tables.Child.{Child}
 
+pub child-old-requires-clause-node : goal.child-old-requires-clause-node
+child-old-requires-clause-node g c = c.in-Ok.ensures.acquired.kept.pages c.args.level c.args.frame c.args.page c.requires.node
+
+pub replace-requires-clause-node : goal.replace-requires-clause-node
+replace-requires-clause-node g c = c.in-Ok.ensures.acquired.kept.pages c.args.level c.args.frame c.args.page c.requires.node
+
 pub returns-in_default-clause-rests : goal.returns-in_default-clause-rests
 returns-in_default-clause-rests g c roots rests =
     let d = g.G.Gpu.state c.args.gpu.now in

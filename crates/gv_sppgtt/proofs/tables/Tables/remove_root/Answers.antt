@@ -6,6 +6,7 @@ use Rattle.gv_sppgtt.specs.State.{pages_of}
 use Rattle.gv_sppgtt.specs.Serving.{roots_of, without_root}
 use Rattle.gv_sppgtt.proofs.Serving.{is-root, roots-without}
 use Rattle.gv_sppgtt.proofs.Served.{rests-removed, done-serves, done-roots, done-tells}
+use Rattle.gv_sppgtt.proofs.Changes.{changes-kept, changes_trans}
 use Rattle.gv_sppgtt.proofs.tables.Tables.remove_root.Goals as goal
 
 pub release-requires-clause-frame : goal.release-requires-clause-frame
@@ -55,3 +56,19 @@ returns-clause-changed g c =
 
 pub returns-clause-stay : goal.returns-clause-stay
 returns-clause-stay g c k f q is = c.release.ensures.dropped.within k f q (ap (λ (n : NodeMap). pages_in n k f) (sym c.in_ok-changed.ensures.telling.nodes) ∙ is)
+
+pub returns-in_err-changed-clause-changes : goal.returns-in_err-changed-clause-changes
+returns-in_err-changed-clause-changes g c =
+    let d = g.G.Gpu.state c.args.gpu.now in
+    let e = g.G.Gpu.state c.release.new.gpu in
+    let f = g.G.Gpu.state c.tell.new.gpu in
+    changes_trans c.args.frames.now d e f c.args.self.now c.release.new.self c.tell.new.self c.args.pins.now c.release.new.pins c.release.new.pins
+    (changes-kept c.args.frames.now d e c.args.self.now c.release.new.self c.args.pins.now c.release.new.pins c.release.ensures.keeps) c.in_err-changed.ensures.changes
+
+pub returns-clause-changes : goal.returns-clause-changes
+returns-clause-changes g c =
+    let d = g.G.Gpu.state c.args.gpu.now in
+    let e = g.G.Gpu.state c.release.new.gpu in
+    let f = g.G.Gpu.state c.tell.new.gpu in
+    changes_trans c.args.frames.now d e f c.args.self.now c.release.new.self c.tell.new.self c.args.pins.now c.release.new.pins c.release.new.pins
+    (changes-kept c.args.frames.now d e c.args.self.now c.release.new.self c.args.pins.now c.release.new.pins c.release.ensures.keeps) c.in_ok-changed.ensures.changes

@@ -1,4 +1,4 @@
-use Rattle.std.proofs.Common.{◌≡◌, ap}
+use Rattle.std.proofs.Common.{ap}
 use Rattle.gv_gpu.specs.Device.{Device}
 use Rattle.gv_sppgtt.proofs.Poked.{keeps-poked}
 use Rattle.gv_sppgtt.proofs.tables.Tables.replace_leaf.Goals as goal

@@ -5,6 +5,7 @@ use Rattle.gv_guest.specs.Placed.{memory_in}
 use Rattle.gv_sppgtt.specs.State.{pages_of, sketch_of}
 use Rattle.gv_sppgtt.proofs.Relinked.{rests-skipped}
 use Rattle.gv_sppgtt.proofs.Resting.{rests-live, rests-modest}
+use Rattle.gv_sppgtt.proofs.Kept.{keeps-none}
 use Rattle.gv_sppgtt.proofs.tables.Tables.step.Goals as goal
 
 pub returns-in_default-clause-rests : goal.returns-in_default-clause-rests
@@ -37,3 +38,6 @@ returns-clause-pokes g c =
 
 pub returns-in_default-clause-pokes : goal.returns-in_default-clause-pokes
 returns-in_default-clause-pokes g c same = (omega arith, λ k f. refl)
+
+pub returns-in_default-clause-keeps : goal.returns-in_default-clause-keeps
+returns-in_default-clause-keeps g c = keeps-none c.args.frames.now (g.G.Gpu.state c.args.gpu.now) c.args.self.now c.args.pins.now

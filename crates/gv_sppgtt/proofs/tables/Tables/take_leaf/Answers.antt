@@ -1,5 +1,6 @@
-use Rattle.std.proofs.Common.{◌/◌, ◌%◌, eqb}
+use Rattle.std.proofs.Common.{◌/◌, ◌%◌, eqb, false}
 use Rattle.gv_sppgtt.proofs.Decoded.{one_less}
+use Rattle.gv_sppgtt.proofs.Ordered.{order-unlinked}
 use Rattle.gv_sppgtt.proofs.tables.Tables.take_leaf.Goals as goal
 
 pub leaf_frame-requires : goal.leaf_frame-requires
@@ -18,3 +19,8 @@ pub returns-clause-pins : goal.returns-clause-pins
 returns-clause-pins c h =
     let known = c.requires.named c.in-Some.frame (eqb (c.args.word / 4 % 2) 1) c.in-Some.ensures.some in
     rw c.in-Some.ensures.some (one_less c.args.pins.now c.unpin.new.self c.in-Some.frame h known.counted known.pinned c.unpin.ensures)
+
+pub returns-clause-order : goal.returns-clause-order
+returns-clause-order c ordered =
+    let known = c.requires.named c.in-Some.frame (eqb (c.args.word / 4 % 2) 1) c.in-Some.ensures.some in
+    rw c.unlink.ensures.after (order-unlinked c.args.self.now.chains c.in-Some.frame (record { page = c.args.page; index = c.args.index; writable = false }) known.there ordered)

@@ -5,6 +5,7 @@ use Rattle.gv_nodes.specs.NodeMap.{NodeMap}
 use Rattle.gv_sppgtt.specs.Sound.{pages_in}
 use Rattle.gv_sppgtt.specs.State.{is_table}
 use Rattle.gv_sppgtt.proofs.Changes.{changes-none, pins-same}
+use Rattle.gv_sppgtt.proofs.LiveCounts.{live-nodes}
 use Rattle.gv_sppgtt.proofs.Telling.{told-now, telling-same, telling-turned}
 use Rattle.gv_sppgtt.proofs.tables.Tables.tell_frame.Goals as goal
 
@@ -50,12 +51,12 @@ returns-then-guarded-index-clause-changes g c = changes-none c.args.frames.now (
 pub returns-in_err-push-clause-changes : goal.returns-in_err-push-clause-changes
 returns-in_err-push-clause-changes g c =
     let q = c.flip.ensures in
-    record { memory = q.memory; others = q.outside; guest = q.guest; pins = pins-same (length c.args.frames.now.pages) (g.G.Gpu.state c.args.gpu.now) (g.G.Gpu.state c.flip.new.gpu) c.args.self.now c.flip.new.self c.args.pins.now q.readings }
+    record { memory = q.memory; others = q.outside; live = live-nodes (length c.args.frames.now.pages) (g.G.Gpu.state c.args.gpu.now) (g.G.Gpu.state c.flip.new.gpu) c.args.self.now.nodes c.flip.new.self.nodes q.live q.nodes; guest = q.guest; pins = pins-same (length c.args.frames.now.pages) (g.G.Gpu.state c.args.gpu.now) (g.G.Gpu.state c.flip.new.gpu) c.args.self.now c.flip.new.self c.args.pins.now q.readings }
 
 pub returns-clause-changes : goal.returns-clause-changes
 returns-clause-changes g c =
     let q = c.flip.ensures in
-    record { memory = q.memory; others = q.outside; guest = q.guest; pins = pins-same (length c.args.frames.now.pages) (g.G.Gpu.state c.args.gpu.now) (g.G.Gpu.state c.flip.new.gpu) c.args.self.now c.flip.new.self c.args.pins.now q.readings }
+    record { memory = q.memory; others = q.outside; live = live-nodes (length c.args.frames.now.pages) (g.G.Gpu.state c.args.gpu.now) (g.G.Gpu.state c.flip.new.gpu) c.args.self.now.nodes c.flip.new.self.nodes q.live q.nodes; guest = q.guest; pins = pins-same (length c.args.frames.now.pages) (g.G.Gpu.state c.args.gpu.now) (g.G.Gpu.state c.flip.new.gpu) c.args.self.now c.flip.new.self c.args.pins.now q.readings }
 
 pub returns-then-guarded-index-clause-idle : goal.returns-then-guarded-index-clause-idle
 returns-then-guarded-index-clause-idle g c is = (refl, refl)

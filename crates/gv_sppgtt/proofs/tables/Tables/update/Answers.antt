@@ -3,6 +3,7 @@ use Rattle.gv_types.specs.Memory.{Memory}
 use Rattle.gv_shape.specs.Counts.{one_if, rank}
 use Rattle.gv_sppgtt.specs.State.{pages_of, sketch_of}
 use Rattle.gv_sppgtt.specs.Grown.{Rests}
+use Rattle.gv_sppgtt.proofs.Kept.{keeps_trans}
 use Rattle.gv_sppgtt.proofs.Steady.{above-rank, on_both}
 use Rattle.gv_sppgtt.proofs.tables.Tables.update.Goals as goal
 
@@ -13,6 +14,30 @@ returns-clause-roots g c =
     let d = c.in_default-step-2.ensures in
     let e = c.last_step.ensures.pages in
     on_both c.last_step.result (λ same other f. same 4 f ∙ d.above 4 f (omega arith) ∙ b.above 4 f (omega arith) ∙ a.above 4 f (omega arith)) e e
+
+pub returns-in-Err-step-2-clause-keeps : goal.returns-in-Err-step-2-clause-keeps
+returns-in-Err-step-2-clause-keeps g c =
+    let placed = c.args.frames.now in
+    let start = g.G.Gpu.state c.args.gpu.now in
+    let first = g.G.Gpu.state c.step.new.gpu in
+    let second = g.G.Gpu.state c.step-2.new.gpu in
+    let third = g.G.Gpu.state c.step-3.new.gpu in
+    keeps_trans placed start second third c.args.self.now c.step-2.new.self c.step-3.new.self c.args.pins.now c.step-2.new.pins c.step-3.new.pins
+    (keeps_trans placed start first second c.args.self.now c.step.new.self c.step-2.new.self c.args.pins.now c.step.new.pins c.step-2.new.pins c.in_default.ensures.keeps c.in_default-step.ensures.keeps)
+    c.in-Err-step-2.ensures.keeps
+
+pub returns-clause-keeps : goal.returns-clause-keeps
+returns-clause-keeps g c =
+    let placed = c.args.frames.now in
+    let start = g.G.Gpu.state c.args.gpu.now in
+    let first = g.G.Gpu.state c.step.new.gpu in
+    let second = g.G.Gpu.state c.step-2.new.gpu in
+    let third = g.G.Gpu.state c.step-3.new.gpu in
+    let end = g.G.Gpu.state c.last_step.new.gpu in
+    keeps_trans placed start third end c.args.self.now c.step-3.new.self c.last_step.new.self c.args.pins.now c.step-3.new.pins c.last_step.new.pins
+    (keeps_trans placed start second third c.args.self.now c.step-2.new.self c.step-3.new.self c.args.pins.now c.step-2.new.pins c.step-3.new.pins
+    (keeps_trans placed start first second c.args.self.now c.step.new.self c.step-2.new.self c.args.pins.now c.step.new.pins c.step-2.new.pins c.in_default.ensures.keeps c.in_default-step.ensures.keeps)
+    c.in_default-step-2.ensures.keeps) c.last_step.ensures.keeps
 
 -- each step finds the nodes below its level as they are at the end
 pub returns-clause-pokes : goal.returns-clause-pokes
@@ -59,3 +84,14 @@ returns-clause-settled g c =
     let three = subst (λ (m : Memory). Rests n m roots 1 frame index (sketch_of third c.step-3.new.self)) (sym d.keeps.memory) (d.rests roots two) in
     subst (λ (m : Memory). Rests n m roots 0 frame index (sketch_of end c.last_step.new.self)) (sym e.keeps.memory) (last roots three))
     e.rests e.rests
+
+pub returns-in-Err-clause-keeps : goal.returns-in-Err-clause-keeps
+returns-in-Err-clause-keeps g c = c.in-Err.ensures.keeps
+
+pub returns-in-Err-step-clause-keeps : goal.returns-in-Err-step-clause-keeps
+returns-in-Err-step-clause-keeps g c =
+    let placed = c.args.frames.now in
+    let start = g.G.Gpu.state c.args.gpu.now in
+    let first = g.G.Gpu.state c.step.new.gpu in
+    let second = g.G.Gpu.state c.step-2.new.gpu in
+    keeps_trans placed start first second c.args.self.now c.step.new.self c.step-2.new.self c.args.pins.now c.step.new.pins c.step-2.new.pins c.in_default.ensures.keeps c.in-Err-step.ensures.keeps
