@@ -1,0 +1,5 @@
+use Rattle.gv_trees.specs.Served.{IsServed}
+use Rattle.gv_trees.proofs.costs.fill.Given as goal
+
+abbrev pub invariant-loop-index : goal.invariant-loop-index
+invariant-loop-index g l = IsServed (g.G.Gpu.state l.gpu) l.guest.memory l.guest.tables
