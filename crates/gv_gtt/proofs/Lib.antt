@@ -1,0 +1,15 @@
+pub mod Parts
+pub mod Pins
+pub mod Standing
+pub mod Unguarded
+pub mod Steps
+pub mod Lists
+pub mod Turning
+pub mod Words
+pub mod Live
+pub mod Following
+pub mod Results
+pub mod Announced
+pub mod RootCalls
+pub mod MovedPage
+pub mod Others

@@ -1,0 +1,5 @@
+pub mod Gtt
+pub mod Standing
+pub mod Changes
+pub mod Turning
+pub mod Laws
