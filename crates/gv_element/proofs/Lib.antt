@@ -1,0 +1,10 @@
+pub mod Windowed
+pub mod Staying
+pub mod Loading
+pub mod Parts
+pub mod Loads
+pub mod Going
+pub mod Away
+pub mod Beside
+pub mod Guests
+pub mod Scans
