@@ -1,0 +1,14 @@
+pub mod Words
+pub mod Walks
+pub mod Granted
+pub mod Simulated
+pub mod Owned
+pub mod Effects
+pub mod Live
+pub mod Turns
+pub mod After
+pub mod Steps
+pub mod Others
+pub mod Keeping
+pub mod Standing
+pub mod Registers

@@ -1,0 +1,5 @@
+pub mod Owned
+pub mod Same
+pub mod Work
+pub mod Keeping
+pub mod Laws
