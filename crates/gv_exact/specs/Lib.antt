@@ -1,0 +1,4 @@
+pub mod Touched
+pub mod Asked
+pub mod Exact
+pub mod Laws
