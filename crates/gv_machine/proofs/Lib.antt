@@ -1,0 +1,20 @@
+pub mod Courses
+pub mod Devices
+pub mod Rotas
+pub mod Named
+pub mod Joined
+pub mod OwnCourse
+pub mod OwnLines
+pub mod Printable
+pub mod Isolation
+pub mod Ran
+pub mod Text
+pub mod Left
+pub mod Guests
+pub mod Inputs
+pub mod Signed
+pub mod Turns
+pub mod Values
+pub mod Taken
+pub mod Scripts
+mod Examples

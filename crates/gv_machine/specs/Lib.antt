@@ -1,0 +1,5 @@
+pub mod Course
+pub mod Machine
+pub mod Report
+pub mod Solo
+pub mod Laws
