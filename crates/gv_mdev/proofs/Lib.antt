@@ -1,0 +1,7 @@
+mod Working
+mod First
+mod Engines
+pub mod Kept
+pub mod Written
+pub mod Registers
+pub mod General

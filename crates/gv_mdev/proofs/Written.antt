@@ -1,0 +1,41 @@
+-- What writes of a guest's memory and tables leave.
+use Rattle.std.proofs.Common.{◌≡◌, ℕ, Bool, sym, ◌∙◌}
+use Rattle.gv_types.specs.declared.event.Width.{Width}
+use Rattle.gv_entry.specs.Global.{entry_of, with_entry}
+use Rattle.gv_gpu.specs.Device.{Device}
+use Rattle.gv_gtt.specs.Changes.{Changes}
+use Rattle.gv_gtt.specs.Gtt.{over, ranges_of, entries_of}
+use Rattle.gv_gtt.specs.Standing.{Translates}
+use Rattle.gv_gtt.proofs.Others.{changes_stay_inside}
+use Rattle.gv_private.specs.Access.{entry_after, page_at, table_written}
+use Rattle.gv_private.specs.Device.{PrivateDevice}
+use Rattle.gv_mdev.specs.Changes.{Keeps}
+use Rattle.gv_mdev.specs.Mdev.{private_of}
+use Rattle.gv_mdev.specs.Standing.{Holds}
+use Rattle.gv_mdev.specs.declared.mdev.Mdev.{Mdev}
+use Rattle.gv_mdev.proofs.Kept.{KeepsRoots, holds-after, private-after}
+use Rattle.gv_mdev.proofs.Working.{over-private}
+
+module _ (d e : Device) (old new : Mdev) (here : ℕ → Bool) (holds : Holds d old here) (changes : Changes d e old.gtt new.gtt) (registers : new.mmio ≡ old.mmio) (engines : new.engines ≡ old.engines) (failsafe : new.failsafe ≡ old.failsafe) where
+  -- what a change of memory and tables alone keeps
+  pub keeps-after : Translates e new.gtt → KeepsRoots old.gtt new.gtt → Keeps here d e old new
+  keeps-after translates roots = record {
+    holds = holds-after d e old new here holds changes registers engines failsafe translates roots;
+    frames = changes.frames;
+    ranges = changes.ranges;
+    outside = changes_stay_inside d e old.gtt new.gtt here changes;
+    live = changes.live;
+  }
+
+  -- a write of an entry of the global table
+  pub table-written :
+      (width : Width) (offset value entry : ℕ) → entry ≡ entry_after width offset (entry_of (ranges_of old.gtt) (entries_of old.gtt) (page_at offset)) value
+      → ((p : PrivateDevice) → over p e new.gtt ≡ record (over p d old.gtt) { entries = with_entry (ranges_of old.gtt) (entries_of old.gtt) (page_at offset) entry })
+      → private_of e new here ≡ table_written (private_of d old here) width offset value
+  table-written width offset value entry is written =
+      sym (private-after d e old new here holds changes registers engines failsafe)
+      ∙ written (private_of d old here)
+      ∙ (λ i. record (over-private d old here holds i) { entries = with_entry (sym holds.ranges i) (entries_of old.gtt) (page_at offset) (entry-path i) })
+    where
+      entry-path : entry ≡ (entry_after width offset (entry_of (private_of d old here).ranges (entries_of old.gtt) (page_at offset)) value)
+      entry-path = is ∙ (λ i. entry_after width offset (entry_of (sym holds.ranges i) (entries_of old.gtt) (page_at offset)) value)

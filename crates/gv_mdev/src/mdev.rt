@@ -1,0 +1,70 @@
+ghost use Rattle.std.specs.Prelude.{◌≡◌, ℕ, ◌+◌, ◌*◌, ◌<◌, ◌≤◌, Bool, IfOk, OnOk, length};
+ghost use Rattle.gv_entry.specs.Ranges.{InParts};
+ghost use Rattle.gv_gpu.specs.Device.{Device};
+ghost use Rattle.gv_gpu.specs.Part.{outside, frames_part};
+ghost use Rattle.gv_guest.specs.Placed.{Hosts, nowhere};
+ghost use Rattle.gv_private.specs.Device.{new_device};
+ghost use Rattle.gv_sggtt.specs.Mirror.{AreAbsent};
+ghost use Rattle.gv_mdev.specs.Idle.{AreIdle, WindowsAreAbsent};
+
+use crate::engine::{Engine, first_engines};
+use gv_gpu::Gpu;
+use gv_gtt::Gtt;
+use gv_mmio::Mmio;
+use gv_types::{GuestId, OutOfMemory, Ranges};
+use std::alloc::Global;
+
+/// One guest's device, over the shared device. Clauses see the private device that it stands for (`private_of`), and
+/// that it stands there (`Holds`).
+#[derive(Drop)]
+pub struct Mdev {
+    pub(crate) gtt: Gtt,
+    pub(crate) mmio: Mmio,
+    pub(crate) failsafe: bool,
+    pub(crate) engines: [Engine; 4],
+    ghost four: { length engines ≡ 4 },
+}
+
+impl Mdev {
+    ghost use Rattle.gv_mdev.specs.Mdev.{private_of};
+    ghost use Rattle.gv_mdev.specs.Standing.{Holds};
+
+    /// A guest's device as after a function reset, with so many zero frames, 1 to 16,384, and these ranges, whose
+    /// physical entries are absent. The guest has no page and no window in the device yet, and the engines that it will
+    /// own are idle.
+    pub fn new<G: Gpu>(
+        alloc: Global,
+        gpu: &mut G,
+        guest: GuestId,
+        frames: u32,
+        ranges: Ranges,
+    ) -> Result<Mdev, OutOfMemory>
+        requires guest { guest.0 < 8 }
+        requires some { 1 ≤ frames }
+        requires few { frames ≤ 16384 }
+        requires parts { InParts ranges }
+        requires room { (G.state gpu.old).live + (5 * frames + 64) ≤ 131072 }
+        requires none { Hosts (G.state gpu.old) (nowhere guest.0) }
+        requires absent { AreAbsent (G.state gpu.old) ranges }
+        requires windows { WindowsAreAbsent (G.state gpu.old) guest.0 }
+        ensures device { IfOk result (λ v. (here : ℕ → Bool) → AreIdle (G.state gpu.old) here → private_of (G.state gpu.new) v here ≡ new_device guest.0 frames ranges) }
+        ensures holds { IfOk result (λ v. (here : ℕ → Bool) → AreIdle (G.state gpu.old) here → Holds (G.state gpu.new) v here) }
+        ensures live { OnOk result ((G.state gpu.new).live ≡ (G.state gpu.old).live + frames) }
+        ensures outside { outside (frames_part guest.0) (G.state gpu.new) ≡ outside (frames_part guest.0) (G.state gpu.old) }
+    {
+        let gtt = Gtt::new(alloc, gpu, guest, frames, ranges)?;
+        Ok(Mdev {
+            gtt,
+            mmio: Mmio::new(guest, ranges),
+            failsafe: false,
+            engines: first_engines(),
+        })
+    }
+
+    /// Whether the guest is in failsafe.
+    pub fn failsafe(&self) -> bool
+        ensures { (d : Device) (here : ℕ → Bool) → result ≡ (private_of d self.now here).failsafe }
+    {
+        self.failsafe
+    }
+}
