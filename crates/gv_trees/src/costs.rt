@@ -103,6 +103,32 @@ fn a_changed_word_reads_few_words(rt: HostRuntime) -> Result<(), Fail> {
     Ok(())
 }
 
+// The next number of a sequence, and the word of a full table that it stands for: its address, and an entry of one
+// of the frames behind the tables, which may be read-only.
+fn next_word(number: u64) -> (u64, u64, u64) {
+    let next = number
+        .wrapping_mul(6_364_136_223_846_793_005)
+        .wrapping_add(1_442_695_040_888_963_407);
+    let table = 8 + (next >> 33) % 64;
+    let index = (next >> 40) % 512;
+    let frame = 100 + (next >> 50) % 128;
+    let bits = 1 + 2 * ((next >> 60) % 2);
+    (next, (table * 512 + index) * 8, frame * 4096 + bits)
+}
+
+#[test]
+fn thousands_of_words_read_few_words(rt: HostRuntime) -> Result<(), Fail> {
+    let mut gpu = CountingGpu::new(rt.alloc());
+    let mut guest = full_tables(rt.alloc(), &mut gpu)?;
+    let mut number = 18;
+    for _ in 0..3000u32 {
+        let (next, at, value) = next_word(number);
+        number = next;
+        reads_few(&rt, &mut gpu, &mut guest, at, value)?;
+    }
+    Ok(())
+}
+
 fn pokes_two(
     rt: &impl Abort,
     gpu: &mut SoftGpu,
@@ -117,6 +143,36 @@ fn pokes_two(
     guest.write(gpu, at, value)?.changed()?;
     let pokes = gpu.pokes().saturating_sub(before);
     assert_eq!(rt; pokes, 2, "at {at:x}");
+    Ok(())
+}
+
+fn pokes_two_at_most(
+    rt: &impl Abort,
+    gpu: &mut SoftGpu,
+    guest: &mut Guest,
+    at: u64,
+    value: u64,
+) -> Result<(), Trouble>
+    requires { IsServed (whole gpu.old) guest.old.memory guest.old.tables }
+    ensures { IsServed (whole gpu.new) guest.new.memory guest.new.tables }
+{
+    let before = gpu.pokes();
+    guest.write(gpu, at, value)?.changed()?;
+    let pokes = gpu.pokes().saturating_sub(before);
+    assert!(rt; 0 < pokes && pokes <= 2, "{pokes} words poked at {at:x}");
+    Ok(())
+}
+
+#[test]
+fn thousands_of_words_poke_two_words_at_most(rt: HostRuntime) -> Result<(), Fail> {
+    let mut gpu = SoftGpu::new(rt.alloc());
+    let mut guest = full_tables(rt.alloc(), &mut gpu)?;
+    let mut number = 18;
+    for _ in 0..3000u32 {
+        let (next, at, value) = next_word(number);
+        number = next;
+        pokes_two_at_most(&rt, &mut gpu, &mut guest, at, value)?;
+    }
     Ok(())
 }
 
