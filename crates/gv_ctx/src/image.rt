@@ -1,5 +1,6 @@
 ghost use Rattle.std.specs.Prelude.{◌≡◌, IfOk};
 
+use crate::limits::{MAX_RING_PAGES, PAGE_BYTES, PAGE_DWORDS};
 use std::error::Error;
 use std::fmt;
 
@@ -36,7 +37,7 @@ impl Image {
     /// `BadContext` where the ring isn't enabled or has more than 16 pages, where its start isn't at
     /// a page, where the tail isn't a multiple of 8 below the ring's size, or where the head isn't
     /// below it.
-    pub fn read(page: &[u32; 1024]) -> Result<Self, BadContext>
+    pub fn read(page: &[u32; PAGE_DWORDS]) -> Result<Self, BadContext>
         ensures value { result ≡ image_read page.now }
         ensures form { IfOk result IsImage }
     {
@@ -49,7 +50,7 @@ impl Image {
     }
 
     /// The fields, whether they are good or not.
-    fn of(page: &[u32; 1024]) -> Self
+    fn of(page: &[u32; PAGE_DWORDS]) -> Self
         ensures { result ≡ image_of page.now }
     {
         Image {
@@ -65,10 +66,10 @@ impl Image {
     fn is_good(&self, control: u32) -> bool
         ensures { result ≡ is_good self.now control }
     {
-        let ring_size = u64::from(self.pages) * 4096;
+        let ring_size = u64::from(self.pages) * u64::from(PAGE_BYTES);
         control & 1 == 1
-            && self.pages <= 16
-            && self.start % 4096 == 0
+            && self.pages <= MAX_RING_PAGES
+            && self.start % PAGE_BYTES == 0
             && self.tail % 8 == 0
             && u64::from(self.tail) < ring_size
             && u64::from(self.head) < ring_size
@@ -77,12 +78,12 @@ impl Image {
 
 #[cfg(test)]
 mod tests {
-    use crate::{BadContext, Image};
+    use crate::{BadContext, Image, PAGE_DWORDS};
     use std::test::Fail;
 
     /// A page of zeros but for these dwords.
-    fn page(head: u32, tail: u32, start: u32, control: u32) -> [u32; 1024] {
-        let mut page = [0; 1024];
+    fn page(head: u32, tail: u32, start: u32, control: u32) -> [u32; PAGE_DWORDS] {
+        let mut page = [0; PAGE_DWORDS];
         page[0x05] = head;
         page[0x07] = tail;
         page[0x09] = start;
@@ -106,7 +107,7 @@ mod tests {
             Ok(good)
         );
         assert_eq!(rt;
-            Image::read(&[0; 1024]),
+            Image::read(&[0; PAGE_DWORDS]),
             Err(BadContext),
             "the ring isn't enabled"
         );

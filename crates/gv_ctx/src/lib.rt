@@ -4,8 +4,10 @@
 
 mod descriptor;
 mod image;
+mod limits;
 mod saved;
 
 pub use descriptor::Descriptor;
 pub use image::{BadContext, Image};
+pub use limits::PAGE_DWORDS;
 pub use saved::{Batch, Saved};

@@ -6,7 +6,7 @@ ghost use Rattle.gv_engine.specs.Whole.{whole};
 
 use crate::SoftGpu;
 use gv_ctx::{Descriptor, Saved};
-use gv_types::GuestId;
+use gv_types::{GuestId, PAGE_BYTES};
 
 /// A context that is loaded on an engine. The root is the number of a host page.
 #[derive(Clone, Copy, Debug, PartialEq, Eq)]
@@ -27,7 +27,7 @@ fn state_at(descriptor: u64, n: u64) -> u64
     requires { n < 1024 }
     ensures { result ≡ state_at descriptor n }
 {
-    u64::from(Descriptor::of(descriptor).page) * 4096 + 4096 + 4 * n
+    u64::from(Descriptor::of(descriptor).page) * PAGE_BYTES + PAGE_BYTES + 4 * n
 }
 
 impl SoftGpu {

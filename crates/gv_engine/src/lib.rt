@@ -4,6 +4,7 @@
 
 mod context;
 mod entry;
+mod limits;
 mod memory;
 mod pages;
 mod place;

@@ -9,7 +9,7 @@ use crate::SoftGpu;
 use crate::context::Context;
 use crate::pages::byte_of;
 use crate::strays::either;
-use gv_types::{half, with_half};
+use gv_types::{PAGE_BYTES, half, with_half};
 
 impl SoftGpu {
     fn word_in(&self, page: Option<u64>, at: u64) -> u64
@@ -17,7 +17,7 @@ impl SoftGpu {
     {
         match page {
             None => 0,
-            Some(page) => self.word_or_zero(page, (at % 4096 / 8) as usize),
+            Some(page) => self.word_or_zero(page, (at % PAGE_BYTES / 8) as usize),
         }
     }
 
@@ -28,7 +28,7 @@ impl SoftGpu {
     {
         let word = with_half(self.word_in(page, at), at, value);
         if let Some(page) = page {
-            self.set_word(page, (at % 4096 / 8) as usize, word);
+            self.set_word(page, (at % PAGE_BYTES / 8) as usize, word);
         }
     }
 

@@ -5,6 +5,7 @@ ghost use Rattle.gv_types.specs.Bits.{byte_of, with_byte};
 ghost use Rattle.gv_types.specs.Memory.{zero_words};
 ghost use Rattle.gv_engine.specs.Pages.{AreLabelled, nothing_held, with_words, byte_in, bytes_put};
 
+use crate::limits::MAX_ROW_BYTES;
 use gv_arena::Arena;
 use gv_types::{Label, MAX_LIVE_PAGES, OutOfMemory};
 use std::alloc::Global;
@@ -125,7 +126,7 @@ impl Pages {
         &mut self,
         page: u64,
         at: usize,
-        row: &[u8; 16384],
+        row: &[u8; MAX_ROW_BYTES],
         from: usize,
         count: usize,
     )

@@ -13,9 +13,11 @@ ghost use Rattle.gv_engine.specs.Whole.{whole};
 
 use crate::SoftGpu;
 use crate::context::Context;
+use crate::limits::MAX_ROW_BYTES;
 use crate::pages::byte_of;
 use crate::strays::either;
 use crate::walk::{Walk, is_table};
+use gv_types::PAGE_BYTES;
 
 /// A byte of a row of a colour.
 fn colour_byte(colour: u32, depth: u8, k: usize) -> u8
@@ -32,14 +34,15 @@ fn span(at: u64, count: usize) -> usize
     ensures many { (0 < result) × (result ≤ count) }
     ensures page { at % 4096 + result ≤ 4096 }
 {
-    (4096 - (at % 4096) as usize).min(count)
+    (PAGE_BYTES as usize - (at % PAGE_BYTES) as usize).min(count)
 }
 
 /// Whether there are bytes, and they lie in one page.
 fn is_in_one_page(at: u64, count: usize) -> bool
     ensures { IsTrue result → (0 < count) × (at % 4096 + count ≤ 4096) }
 {
-    0 < count && count <= 4096 && (at % 4096) as usize + count <= 4096
+    let page = PAGE_BYTES as usize;
+    0 < count && count <= page && (at % PAGE_BYTES) as usize + count <= page
 }
 
 /// How many bytes can be stored through one walk, of so many: those that lie in its page, and where
@@ -57,7 +60,7 @@ fn storable(walk: &Walk, page: Option<u64>, at: u64, count: usize) -> usize
 }
 
 /// Reads bytes of a page's words into a row.
-fn read_bytes(words: &[u64], at: usize, row: &mut [u8; 16384], from: usize, count: usize)
+fn read_bytes(words: &[u64], at: usize, row: &mut [u8; MAX_ROW_BYTES], from: usize, count: usize)
     requires words { length words.now ≡ 512 }
     requires within { at + count ≤ 4096 }
     requires room { from + count ≤ 16384 }
@@ -69,7 +72,7 @@ fn read_bytes(words: &[u64], at: usize, row: &mut [u8; 16384], from: usize, coun
     }
 }
 
-fn clear_bytes(row: &mut [u8; 16384], from: usize, count: usize)
+fn clear_bytes(row: &mut [u8; MAX_ROW_BYTES], from: usize, count: usize)
     requires room { from + count ≤ 16384 }
     ensures bytes { (k : ℕ) → k < count → slice_index row.new (from + k) ≡ 0 }
     ensures before { (k : ℕ) → k < from → slice_index row.new k ≡ slice_index row.old k }
@@ -79,7 +82,7 @@ fn clear_bytes(row: &mut [u8; 16384], from: usize, count: usize)
     }
 }
 
-fn colour_bytes(row: &mut [u8; 16384], count: usize, colour: u32, depth: u8)
+fn colour_bytes(row: &mut [u8; MAX_ROW_BYTES], count: usize, colour: u32, depth: u8)
     requires { count ≤ 16384 }
     ensures { (k : ℕ) → k < count → slice_index row.new k ≡ colour_byte colour depth k }
 {
@@ -103,7 +106,7 @@ impl SoftGpu {
         match reached.page {
             None => clear_bytes(&mut self.row, from, count),
             Some(page) => {
-                let start = (at % 4096) as usize;
+                let start = (at % PAGE_BYTES) as usize;
                 read_bytes(self.pages.words(page), start, &mut self.row, from, count);
             }
         }
@@ -139,7 +142,7 @@ impl SoftGpu {
         ensures row { self.new.row ≡ self.old.row }
     {
         if let Some(page) = page {
-            let start = (at % 4096) as usize;
+            let start = (at % PAGE_BYTES) as usize;
             self.pages.store_bytes(page, start, &self.row, from, count);
         }
     }
@@ -211,8 +214,8 @@ impl SoftGpu {
         if is_table(&walk, to_page) {
             return None;
         }
-        let from_byte = (from % 4096) as usize;
-        let to_byte = (to % 4096) as usize;
+        let from_byte = (from % PAGE_BYTES) as usize;
+        let to_byte = (to % PAGE_BYTES) as usize;
         self.pages
             .copy_row(from_page, from_byte, to_page, to_byte, count);
         let read = either(strayed, source.strayed);

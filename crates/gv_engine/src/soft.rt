@@ -5,14 +5,12 @@ ghost use Rattle.gv_engine.specs.Soft.{zero_registers};
 
 use crate::Entry;
 use crate::context::Context;
+use crate::limits::{MAX_ROW_BYTES, TABLE_ENTRIES};
 use crate::pages::Pages;
 use crate::place::has_ended;
 use gv_gpu::{Gpu, GpuFailed, Step};
 use gv_types::{EngineId, GuestId, Label, OutOfMemory};
 use std::alloc::Global;
-
-/// How many entries the global table has.
-const ENTRIES: usize = 1_048_576;
 
 // Entries of 0, until there are so many. No entry changes, where one that isn't there is 0.
 fn lengthen(entries: &mut Vec<u64>, count: usize) -> Result<(), OutOfMemory>
@@ -58,7 +56,7 @@ pub struct SoftGpu {
     strays: u64,
     pokes: u64,
     // where a row of a blit is kept between reading and writing
-    pub(crate) row: [u8; 16384],
+    pub(crate) row: [u8; MAX_ROW_BYTES],
     ghost table: { length entries.items ≤ 1048576 },
     ghost whole_table: { (page : ℕ) → IsSome ((held pages).label page) → length entries.items ≡ 1048576 },
     ghost journal_room: { length journal.items + spare ≤ vec_capacity journal },
@@ -81,7 +79,7 @@ impl SoftGpu {
             spare: 0,
             strays: 0,
             pokes: 0,
-            row: [0; 16384],
+            row: [0; MAX_ROW_BYTES],
         }
     }
 
@@ -179,7 +177,7 @@ impl Gpu for SoftGpu {
     ghost state = { λ s. state_of (held s.pages) s.entries.items s.general s.contexts s.journal.items s.strays s.pokes s.spare };
 
     fn add_page(&mut self, label: Label) -> Result<u64, OutOfMemory> {
-        lengthen(&mut self.entries, ENTRIES)?;
+        lengthen(&mut self.entries, TABLE_ENTRIES)?;
         self.pages.add(label)
     }
 

@@ -9,7 +9,7 @@ use crate::SoftGpu;
 use crate::context::Context;
 use crate::walk::{Walk, is_page};
 use gv_ctx::Descriptor;
-use gv_types::GuestId;
+use gv_types::{GuestId, PAGE_BYTES};
 
 /// Whether an access strayed, before or now.
 pub(crate) fn either(before: bool, now: bool) -> bool
@@ -30,7 +30,7 @@ fn image_of(descriptor: u64) -> u64
     ensures value { result ≡ image_of descriptor }
     ensures small { result < 2 ^ 32 }
 {
-    u64::from(Descriptor::of(descriptor).page) * 4096
+    u64::from(Descriptor::of(descriptor).page) * PAGE_BYTES
 }
 
 impl SoftGpu {
@@ -63,7 +63,7 @@ impl SoftGpu {
     {
         let image = image_of(context.descriptor);
         let first = self.read_page(image);
-        let second = self.read_page(image + 4096);
+        let second = self.read_page(image + PAGE_BYTES);
         either(is_page(first, page), is_page(second, page))
     }
 

@@ -5,6 +5,7 @@ ghost use Rattle.gv_engine.specs.Walk.{walk_of, writable_page, is_table};
 ghost use Rattle.gv_engine.specs.Whole.{whole};
 
 use crate::SoftGpu;
+use gv_types::PAGE_WORDS;
 
 /// What an address goes through: the tables of its walk, from the root's down, and the entry at
 /// last. A global address has no tables.
@@ -108,15 +109,15 @@ impl SoftGpu {
         ensures { result ≡ walk_of (whole self.now) root false at }
     {
         let fourth = self.live_page(root);
-        let third = self.page_of(self.entry_in(fourth, (at >> 39) % 512));
-        let second = self.page_of(self.entry_in(third, (at >> 30) % 512));
-        let first = self.page_of(self.entry_in(second, (at >> 21) % 512));
+        let third = self.page_of(self.entry_in(fourth, (at >> 39) % PAGE_WORDS as u64));
+        let second = self.page_of(self.entry_in(third, (at >> 30) % PAGE_WORDS as u64));
+        let first = self.page_of(self.entry_in(second, (at >> 21) % PAGE_WORDS as u64));
         Walk {
             root: fourth,
             third,
             second,
             first,
-            entry: self.entry_in(first, (at >> 12) % 512),
+            entry: self.entry_in(first, (at >> 12) % PAGE_WORDS as u64),
         }
     }
 

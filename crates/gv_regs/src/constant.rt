@@ -1,7 +1,7 @@
 ghost use Rattle.std.specs.Prelude.{◌≡◌, ◌+◌, ◌≤◌};
 ghost use Rattle.gv_regs.specs.Registers.{base_of};
 
-use gv_types::{GuestId, Ranges, Span};
+use gv_types::{GuestId, PAGE_BYTES, Ranges, Span};
 
 /// What a constant register reads: a number, the guest's number plus 1, or base or size of one of
 /// its ranges in bytes.
@@ -26,9 +26,9 @@ impl Constant {
             Constant::Number(number) => number,
             Constant::GuestNumber => u32::from(guest.0) + 1,
             Constant::LowBase => base(&ranges.low),
-            Constant::LowSize => ranges.low.pages * 4096,
+            Constant::LowSize => ranges.low.pages * PAGE_BYTES as u32,
             Constant::HighBase => base(&ranges.high),
-            Constant::HighSize => ranges.high.pages * 4096,
+            Constant::HighSize => ranges.high.pages * PAGE_BYTES as u32,
         }
     }
 }
@@ -40,6 +40,6 @@ fn base(span: &Span) -> u32
     if span.pages == 0 {
         0
     } else {
-        span.first * 4096
+        span.first * PAGE_BYTES as u32
     }
 }

@@ -45,6 +45,13 @@ impl Registers {
         }
     }
 
+    /// Whose registers they are.
+    pub fn guest(&self) -> GuestId
+        ensures { result.0 ≡ self.now.guest }
+    {
+        self.guest
+    }
+
     /// What a read at an offset in bytes finds: the value of a register that is kept here, of a constant or of
     /// a request that is acknowledged, and 0 at an absent offset. `Goes` names the part of the device that serves
     /// the register and is to be read.

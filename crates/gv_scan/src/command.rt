@@ -9,7 +9,7 @@ ghost use Rattle.gv_fetch.specs.Fetch.{dwords, owns_dwords, batch_command, ring_
 use crate::Reader;
 use crate::operands::owns_operands;
 use gv_cmd::{Command, Kind, MAX_COMMAND_DWORDS, Stands, allowed, decode, length};
-use gv_types::{EngineId, Reason};
+use gv_types::{EngineId, PAGE_BYTES, Reason};
 
 /// Whether so many dwords from an address are on owned pages.
 fn owns_dwords<R: Reader>(reader: &R, at: u64, count: usize) -> bool
@@ -18,7 +18,7 @@ fn owns_dwords<R: Reader>(reader: &R, at: u64, count: usize) -> bool
     ensures { result ≡ owns_dwords (R.space reader.now) at count }
 {
     for n in 0..count {
-        if !reader.owned((at + 4 * n as u64) / 4096) {
+        if !reader.owned((at + 4 * n as u64) / PAGE_BYTES) {
             return false;
         }
     }
@@ -67,7 +67,7 @@ pub(crate) fn batch_command<R: Reader>(
     ensures low { OnOk result (at < 2 ^ 32) }
     ensures long { IfOk result (λ c. (1 ≤ length c) × (length c ≤ budget)) }
 {
-    if !reader.owned(at / 4096) {
+    if !reader.owned(at / PAGE_BYTES) {
         return Err(Reason::Range);
     }
     let Some(count) = length(reader.word(at as u32)) else {

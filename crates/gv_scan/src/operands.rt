@@ -5,12 +5,13 @@ ghost use Rattle.gv_fetch.specs.Fetch.{owns_access, owns_accesses, owns_operands
 
 use crate::Reader;
 use gv_cmd::{Command, Kind, PostWrite};
+use gv_types::PAGE_BYTES;
 
 /// Whether a dword that is accessed is on an owned page, where it is global.
 fn owns_access<R: Reader>(reader: &R, global: bool, at: u64) -> bool
     ensures { result ≡ owns_access (R.space reader.now) (access global at) }
 {
-    !global || reader.owned(at / 4096)
+    !global || reader.owned(at / PAGE_BYTES)
 }
 
 /// Whether one dword, or two that follow one another, are on owned pages, where they are global.

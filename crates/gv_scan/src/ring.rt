@@ -9,8 +9,11 @@ use crate::batches::with_first_level;
 use crate::command::{dwords_of, ring_command, started};
 use crate::{Program, Reader, ScanFault};
 use gv_ctx::Image;
-use gv_types::{EngineId, Reason};
+use gv_types::{EngineId, PAGE_BYTES, Reason};
 use std::alloc::Global;
+
+/// How many dwords of privileged batches are fetched in one load at the most.
+const MAX_BATCH_DWORDS: usize = 262_144;
 
 /// Whether so many pages are owned.
 fn owns_pages<R: Reader>(reader: &R, first: u64, count: u64) -> bool
@@ -34,7 +37,7 @@ fn read_ring<R: Reader>(alloc: Global, reader: &R, image: &Image) -> Result<Vec<
     ensures done { IfOk result (λ v. v.items ≡ ring_dwords (R.space reader.now) image.now) }
     ensures fault { IfErr result (λ e. e ≡ ScanFault.OutOfMemory) }
 {
-    let size = image.pages * 4096;
+    let size = image.pages * PAGE_BYTES as u32;
     let count = (size + image.tail - image.head) % size / 4;
     let mut words: Vec<u32> = Vec::new(alloc);
     for k in 0..count {
@@ -59,7 +62,7 @@ fn scan_ring<R: Reader>(
 {
     let mut own: Vec<u32> = Vec::new(alloc);
     let mut batches: Vec<u32> = Vec::new(alloc);
-    let mut left = 262144;
+    let mut left = MAX_BATCH_DWORDS;
     let mut at = 0;
     'commands: while at < ring.len() {
         let command = match ring_command(reader, engine, &ring[at..]) {
@@ -106,7 +109,8 @@ pub fn scan<R: Reader>(
     ensures fits { IfOk result (λ p. FitsWindow p.ring.items p.batches.items) }
     ensures fault { IfErr result (IsScanFault (fetched (R.space reader.now) engine.0 image.now)) }
 {
-    if !owns_pages(reader, (image.start / 4096) as u64, image.pages as u64) {
+    let first = (image.start / PAGE_BYTES as u32) as u64;
+    if !owns_pages(reader, first, image.pages as u64) {
         return Err(ScanFault::Refused(Reason::Range));
     }
     let words = read_ring(alloc, reader, image)?;

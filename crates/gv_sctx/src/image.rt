@@ -4,7 +4,7 @@ ghost use Rattle.gv_sctx.specs.Image.{page_dword, dword_poked, dwords_poked, ima
 
 use gv_ctx::Saved;
 use gv_gpu::Gpu;
-use gv_types::{half, with_half};
+use gv_types::{PAGE_BYTES, half, with_half};
 
 /// Ring control: enabled, sixteen pages.
 const CONTROL: u32 = 0xf001;
@@ -58,7 +58,7 @@ fn dwords_of(start: u32, place: &Saved, tail: u32, shadow_root: u64) -> [(usize,
         (0x09, start),
         (0x0b, CONTROL),
         (0x31, 0),
-        (0x33, shadow_root as u32 * 0x1000),
+        (0x33, shadow_root as u32 * PAGE_BYTES as u32),
     ]
 }
 

@@ -2,7 +2,9 @@ ghost use Rattle.std.specs.Prelude.{◌≡◌, ◌≤◌, ◌<◌, ◌+◌, ◌*
 ghost use Rattle.gv_types.specs.Memory.{zero_words};
 ghost use Rattle.gv_sring.specs.Packing.{packed, packed_into, words_in, HoldsPart};
 
+use gv_ctx::PAGE_DWORDS;
 use gv_gpu::Gpu;
+use gv_types::PAGE_WORDS;
 
 /// A dword of a list, or 0 past its end.
 fn dword(words: &[u32], n: usize) -> u32
@@ -33,9 +35,9 @@ pub(crate) fn pack<G: Gpu>(gpu: &mut G, page: u64, words: &[u32], part: usize)
     ensures device { G.state gpu.new ≡ packed_into (G.state gpu.old) page words.now (512 * part) (words_in words.now part) }
     ensures part { HoldsPart (G.state gpu.new) page words.now part }
 {
-    let count = ((words.len() + 1).saturating_sub(1024 * part) / 2).min(512);
+    let count = ((words.len() + 1).saturating_sub(PAGE_DWORDS * part) / 2).min(PAGE_WORDS);
     for j in 0..count {
-        let word = packed(words, 512 * part + j);
+        let word = packed(words, PAGE_WORDS * part + j);
         gpu.poke(page, j, word);
     }
 }

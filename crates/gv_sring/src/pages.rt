@@ -4,8 +4,9 @@ ghost use Rattle.gv_sring.specs.Packing.{HoldsPart, HoldsParts, count_of};
 ghost use Rattle.gv_sring.specs.Window.{Shows, WindowIsAbsent, Grows, page_at, slot_of, flags_of, most_pages};
 
 use crate::pack::pack;
+use gv_ctx::PAGE_DWORDS;
 use gv_gpu::Gpu;
-use gv_types::{EngineId, GuestId, Label, OutOfMemory};
+use gv_types::{EngineId, GuestId, Label, OutOfMemory, PAGE_BYTES};
 use std::alloc::Global;
 use std::marker::Model;
 
@@ -26,7 +27,7 @@ fn slot_of(tail: u32, k: usize) -> u32
     ensures below { result < 0x200 }
 {
     let k = k as u32;
-    let ring_pages = tail.div_ceil(4096);
+    let ring_pages = tail.div_ceil(PAGE_BYTES as u32);
     if k < 2 {
         k
     } else if k < 2 + ring_pages {
@@ -41,7 +42,7 @@ fn entry_of(page: u64, k: usize) -> u64
     requires { page < 131072 }
     ensures { result ≡ page * 4096 + flags_of k }
 {
-    page * 4096 + if k < 2 { 3 } else { 1 }
+    page * PAGE_BYTES + if k < 2 { 3 } else { 1 }
 }
 
 /// The pages of a shadow ring and of its image, with their entries of the global table.
@@ -151,7 +152,7 @@ impl Pages {
         ensures parts { OnOk result (HoldsParts (G.state gpu.new) self.new (length self.old.pages) words.now (count_of words.now)) }
         ensures outside { outside (window_part self.old.guest self.old.engine self.new.pages) (G.state gpu.new) ≡ outside (window_part self.old.guest self.old.engine self.old.pages) (G.state gpu.old) }
     {
-        for part in 0..words.len().div_ceil(1024) {
+        for part in 0..words.len().div_ceil(PAGE_DWORDS) {
             self.add(gpu, words, part)?;
         }
         Ok(())

@@ -9,7 +9,7 @@ use crate::pages::{Pages, first_of_window};
 use crate::place::place;
 use gv_gpu::Gpu;
 use gv_scan::Program;
-use gv_types::{EngineId, GuestId, OutOfMemory};
+use gv_types::{EngineId, GuestId, OutOfMemory, PAGE_BYTES};
 use std::alloc::Global;
 use std::marker::Model;
 
@@ -44,7 +44,7 @@ impl Shadow {
     pub fn start(&self) -> u32
         ensures { result ≡ ring_address self.now.guest self.now.engine }
     {
-        (first_of_window(self.pages.guest(), self.pages.engine()) + 0x10) * 4096
+        (first_of_window(self.pages.guest(), self.pages.engine()) + 0x10) * PAGE_BYTES as u32
     }
 
     /// The ring copy's length in bytes.
@@ -59,7 +59,7 @@ impl Shadow {
     pub fn descriptor(&self) -> u64
         ensures { result ≡ descriptor_at self.now.guest self.now.engine }
     {
-        u64::from(first_of_window(self.pages.guest(), self.pages.engine())) * 4096 + 0x19
+        u64::from(first_of_window(self.pages.guest(), self.pages.engine())) * PAGE_BYTES + 0x19
     }
 }
 
@@ -122,7 +122,7 @@ pub fn build<G: Gpu>(
     ensures absent { OnErr result (WindowIsAbsent (G.state gpu.new) guest.0 engine.0) }
     ensures none_more { OnErr result ((G.state gpu.new).live ≡ (G.state gpu.old).live) }
 {
-    let base = (first_of_window(guest, engine) + 0x20) * 4096;
+    let base = (first_of_window(guest, engine) + 0x20) * PAGE_BYTES as u32;
     let ring = place(alloc, &program.ring, base)?;
     let batches = place(alloc, &program.batches, base)?;
     let mut pages = Pages::new(alloc, guest, engine, 4 * ring.len() as u32);
