@@ -10,7 +10,8 @@ use Rattle.gv_sched.specs.Rota.{Owners, first_owners, owner_of, next_owner, work
 use Rattle.gv_sched.proofs.Order.{next_owner-first}
 use Rattle.gv_private.specs.Device.{PrivateDevice}
 use Rattle.gv_machine.specs.Laws.{HasOwners, FirstOwnersAreTheRotas, SwitchesAreTheRotas, SwitchesGoRound, DevicesKeepOwners}
-use Rattle.gv_machine.specs.Machine.{Machine, new_machine, Receiver, received, has_work, work_on, owner_after, switch_course}
+use Rattle.gv_private.specs.Work.{has_work}
+use Rattle.gv_machine.specs.Machine.{Machine, new_machine, Receiver, received, work_on, owner_after, switch_course}
 
 -- the next owner is one of the guests
 module _ (work : List Bool) (owner : ℕ) (there : owner < length work) where

@@ -1,7 +1,6 @@
 -- The machine: a private device for each guest, and who owns each engine; the course of inputs that go to them.
 use Rattle.std.specs.Prelude.{ℕ, ◌+◌, ◌/◌, ◌%◌, ◌^◌, List, [], ◌∷◌, ◌++◌, Bool, true, false, ◌||◌, Option, None, Some, length, map, slice_index_or, slice_set}
 use Rattle.std.specs.List.{flat_map, sum_by}
-use Rattle.std.specs.Option.{is_some}
 use Rattle.gv_types.specs.Maps.{put}
 use Rattle.gv_types.specs.Memory.{bytes_of}
 use Rattle.gv_types.specs.declared.event.Event.{Event}
@@ -25,6 +24,7 @@ use Rattle.gv_text.specs.declared.script_line.Line.TheVariants.{Guest, Read, Wri
 use Rattle.gv_private.specs.Device.{PrivateDevice, new_device}
 use Rattle.gv_private.specs.Inputs.{Answered, Input, event, turns, answer, events_in}
 use Rattle.gv_private.specs.Turn.{JournalEntry}
+use Rattle.gv_private.specs.Work.{has_work}
 use Rattle.gv_machine.specs.Course.{Course, play}
 
 -- ---- one device
@@ -99,14 +99,6 @@ abbrev pub whose : (ℕ → ℕ) → Input → Option ℕ
 whose owners input = guest_in (receiver owners input)
 
 -- ---- a switch
-
-abbrev pub is_list : List ℕ → Bool
-is_list [] = false
-is_list (descriptor ∷ more) = true
-
--- Whether an engine has work of a guest's: an element at work, or a list.
-abbrev pub has_work : ℕ → PrivateDevice → Bool
-has_work engine p = is_some (p.engines engine).element || is_list (p.engines engine).slots.running
 
 -- the guests that have work on an engine
 abbrev pub work_on : ℕ → List PrivateDevice → List Bool

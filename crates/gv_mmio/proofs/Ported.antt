@@ -1,12 +1,12 @@
 -- What a write to a port makes of the device.
-use Rattle.std.proofs.Common.{◌≡◌, ℕ, ◌+◌, ◌*◌, ◌^◌, ◌<◌, true, List, [], ◌∷◌, Some, None, refl, ap, sym, ◌∙◌, subst}
+use Rattle.std.proofs.Common.{◌≡◌, ◌≢◌, ℕ, ◌+◌, ◌*◌, ◌^◌, ◌<◌, true, List, [], ◌∷◌, Some, None, refl, ap, sym, ◌∙◌, subst}
 use Rattle.gv_types.specs.declared.ids.EngineId.{EngineId}
 use Rattle.gv_csb.specs.Status.{idle_to_active}
 use Rattle.gv_csb.specs.declared.slots.Submitted.{Submitted}
 use Rattle.gv_csb.specs.declared.slots.Submitted.TheVariants.{Accepted}
 use Rattle.gv_regs.specs.Table.{target_at}
 use Rattle.gv_regs.specs.declared.effect.Target.{Target}
-use Rattle.gv_regs.specs.declared.effect.Target.TheVariants.{Elsp}
+use Rattle.gv_regs.specs.declared.effect.Target.TheVariants.{Elsp, EngineReset}
 use Rattle.gv_private.specs.Device.{PrivateDevice, Written, quietly, new_device}
 use Rattle.gv_private.specs.Registers.{dword_written, dword_written_by}
 use Rattle.gv_private.specs.Status.{events_given}
@@ -63,9 +63,12 @@ module _ (old middle new : Mmio) (offset value : ℕ) (engine : EngineId) (targe
       ap (λ (t : Target). dword_written_by t (behind p old) offset value) target
       ∙ ap (λ (q : PrivateDevice). port_written q engine.0 value) (sym (same p))
 
+  no-reset : target_at offset ≢ EngineReset
+  no-reset is = let same : Elsp engine ≡ EngineReset = sym target ∙ is in cc
+
   pub port-writes : (wrote : Wrote) → WritesPort middle engine.0 value new wrote → Writes old offset value new wrote
-  port-writes (Done irq) is = λ p. written p ∙ is p
-  port-writes (Starts other) is = (subst (λ n. n < 4) (sym (is any).0) small, λ p. written p ∙ (is p).1 ∙ ap (λ n. events_given (behind p new) n (idle_to_active ∷ [])) (sym (is p).0))
+  port-writes (Done irq) is = (no-reset, λ p. written p ∙ is p)
+  port-writes (Starts other) is = (no-reset, subst (λ n. n < 4) (sym (is any).0) small, λ p. written p ∙ (is p).1 ∙ ap (λ n. events_given (behind p new) n (idle_to_active ∷ [])) (sym (is p).0))
   port-writes (General other n) is = absurd (is any)
   port-writes (Engines named) is = absurd (is any)
   port-writes Notify is = absurd (is any)

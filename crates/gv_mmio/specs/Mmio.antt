@@ -1,12 +1,12 @@
 -- What the registers, the interrupts and the ports of a guest are of its private device.
-use Rattle.std.specs.Prelude.{◌≡◌, ℕ, ◌<◌, Bool, List, [], ◌∷◌, Option, None, if◌then◌else◌}
+use Rattle.std.specs.Prelude.{◌≡◌, ◌≢◌, ℕ, ◌<◌, Bool, List, [], ◌∷◌, Option, None, if◌then◌else◌}
 use Rattle.gv_types.specs.declared.ranges.Ranges.{Ranges}
 use Rattle.gv_csb.specs.Slots.{reset_execlists}
 use Rattle.gv_csb.specs.Status.{idle_to_active}
 use Rattle.gv_irq.specs.Irq.{reset_irq}
 use Rattle.gv_regs.specs.Registers.{map_of, reset_registers}
-use Rattle.gv_regs.specs.Table.{target_at}
-use Rattle.gv_regs.specs.declared.effect.Target.TheVariants.{General as GeneralTarget, Notify as NotifyTarget}
+use Rattle.gv_regs.specs.Table.{target_at, engines_reset}
+use Rattle.gv_regs.specs.declared.effect.Target.TheVariants.{General as GeneralTarget, Notify as NotifyTarget, EngineReset}
 use Rattle.gv_private.specs.Device.{PrivateDevice, Written, quietly}
 use Rattle.gv_private.specs.Registers.{dword_read, dword_written, is_named}
 use Rattle.gv_private.specs.Status.{events_given}
@@ -79,10 +79,10 @@ SubmitsList w p engine wrote = ⊥
 abbrev pub WritesPort : Mmio → ℕ → ℕ → Mmio → Wrote → Type 0
 WritesPort old engine value new wrote = (p : PrivateDevice) → SubmitsList (port_written (behind p old) engine value) (behind p new) engine wrote
 
--- what a write of a dword makes of it
+-- what a write of a dword makes of it; a reset of engines is none that is done, and starts no list
 abbrev pub Writes : Mmio → ℕ → ℕ → Mmio → Wrote → Type 0
-Writes old offset value new (Done irq) = (p : PrivateDevice) → IsDone (dword_written (behind p old) offset value) (behind p new) irq
-Writes old offset value new (Starts engine) = (engine.0 < 4) × ((p : PrivateDevice) → StartsList (dword_written (behind p old) offset value) (behind p new) engine.0)
-Writes old offset value new (Engines named) = (p : PrivateDevice) → dword_written (behind p old) offset value ≡ quietly (rest_reset named (behind p new))
+Writes old offset value new (Done irq) = (target_at offset ≢ EngineReset) × ((p : PrivateDevice) → IsDone (dword_written (behind p old) offset value) (behind p new) irq)
+Writes old offset value new (Starts engine) = (target_at offset ≢ EngineReset) × (engine.0 < 4) × ((p : PrivateDevice) → StartsList (dword_written (behind p old) offset value) (behind p new) engine.0)
+Writes old offset value new (Engines named) = (target_at offset ≡ EngineReset) × (named ≡ engines_reset value) × ((p : PrivateDevice) → dword_written (behind p old) offset value ≡ quietly (rest_reset named (behind p new)))
 Writes old offset value new (General engine n) = (target_at offset ≡ GeneralTarget engine n) × (engine.0 < 4) × (n < 32) × ((p : PrivateDevice) → behind p new ≡ behind p old)
 Writes old offset value new Notify = (target_at offset ≡ NotifyTarget) × ((p : PrivateDevice) → behind p new ≡ behind p old)

@@ -82,6 +82,13 @@ impl Mmio {
         }
     }
 
+    /// Whose registers they are.
+    pub fn guest(&self) -> GuestId
+        ensures { result.0 ≡ guest_of self.now }
+    {
+        self.registers.guest()
+    }
+
     /// Reads a dword at an offset of the register range, in bytes.
     pub fn read(&self, offset: u32) -> Read
         ensures { Reads self.now offset result }

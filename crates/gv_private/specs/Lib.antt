@@ -1,4 +1,5 @@
 pub mod Device
+pub mod Work
 pub mod Grants
 pub mod Status
 pub mod Submission
