@@ -6,7 +6,7 @@ use Rattle.gv_mdev.specs.Mdev.{engine_at, no_engine}
 use Rattle.gv_mdev.specs.declared.mdev.Mdev.{Mdev}
 
 -- there is no fifth engine
-none-past : (v : Mdev) (k : ℕ) → 4 ≤ k → engine_at v k ≡ no_engine
+pub none-past : (v : Mdev) (k : ℕ) → 4 ≤ k → engine_at v k ≡ no_engine
 none-past v k past = get_or_past v.engines k no_engine (subst (λ n. n ≤ k) (sym v.four) past)
 
 -- What holds of each of the four, and of an engine without an element, holds of each number.

@@ -19,24 +19,24 @@ use Rattle.gv_mmio.specs.Mmio.{behind, guest_of, ports_at, ranges_of as mmio_ran
 use Rattle.gv_mmio.specs.Port.{writes_of}
 use Rattle.gv_private.specs.Device.{Engine as PrivateEngine, new_device}
 use Rattle.gv_private.specs.Registers.{general_written, with_general}
-use Rattle.gv_sppgtt.specs.State.{LiveFollows}
 use Rattle.gv_sring.specs.Window.{WindowIsAbsent}
 use Rattle.gv_turn.specs.Owned.{OwnsLeft}
-use Rattle.gv_mdev.specs.Changes.{Keeps}
+use Rattle.gv_mdev.specs.Changes.{Keeps, own_live}
 use Rattle.gv_mdev.specs.General.{kept_written, with_dword}
 use Rattle.gv_mdev.specs.Mdev.{engine_at, engine_in, element_in, general_in, private_of}
-use Rattle.gv_mdev.specs.Standing.{Holds, StandsAtWork, StandsOn}
+use Rattle.gv_mdev.specs.Standing.{Holds, IsAway, StandsAtWork, StandsOn}
 use Rattle.gv_mdev.specs.declared.engine.Engine.{Engine}
 use Rattle.gv_mdev.specs.declared.mdev.Mdev.{Mdev}
 use Rattle.gv_mdev.proofs.Engines.{each-engine}
+use Rattle.gv_mdev.proofs.Same.{beside-same, moves-none, own-same}
 
 pub same-number : (k engine : ℕ) → (k == engine) ≡ true → k ≡ engine
 same-number k engine is = grind (arith, nat_tests)
 
-other-number : (k engine : ℕ) → (k == engine) ≡ false → k ≢ engine
+pub other-number : (k engine : ℕ) → (k == engine) ≡ false → k ≢ engine
 other-number k engine is = grind (arith, nat_tests)
 
-not-equal : (k engine : ℕ) → k ≢ engine → (k == engine) ≡ false
+pub not-equal : (k engine : ℕ) → k ≢ engine → (k == engine) ≡ false
 not-equal k engine differ = grind (arith, nat_tests)
 
 -- a function that differs from another at one place
@@ -47,10 +47,10 @@ put-by {A} f g engine x own other k = choose (k == engine) refl
     choose true is = subst (λ j. g j ≡ x) (sym (same-number k engine is)) own
     choose false is = other k (other-number k engine is)
 
-put-own : {A : Type 0} (f : ℕ → A) (k : ℕ) (x : A) → put f k x k ≡ x
+pub put-own : {A : Type 0} (f : ℕ → A) (k : ℕ) (x : A) → put f k x k ≡ x
 put-own f k x = λ i. if eq-eqb k k refl i then x else f k
 
-put-other : {A : Type 0} (f : ℕ → A) (k n : ℕ) (x : A) → n ≢ k → put f k x n ≡ f n
+pub put-other : {A : Type 0} (f : ℕ → A) (k n : ℕ) (x : A) → n ≢ k → put f k x n ≡ f n
 put-other f k n x differ = λ i. if not-equal n k differ i then x else f n
 
 -- ---- the device's registers
@@ -137,14 +137,17 @@ module _ (d : Device) (v : Mdev) (here : ℕ → Bool) (holds : Holds d v here) 
       ranges = holds.ranges;
       below = holds.below;
       engines = λ k four. stands-after k (engine_at v k).element (holds.engines k four);
+      beside = holds.beside;
+      away = holds.away;
       none_above = holds.none_above;
       sixteen = no-seventeenth;
       kept = holds.kept;
     };
+    number = refl;
     frames = refl;
     ranges = refl;
     outside = λ i. record (outside (guest_part (number_of v.gtt) (ranges_of v.gtt) here) d) { general = λ k. outside-after k i };
-    live = record { others = refl; exact = λ enough. refl };
+    live = λ enough. refl;
   }
 
 -- ---- the registers that are kept
@@ -215,12 +218,15 @@ module _ (d : Device) (old new : Mdev) (here : ℕ → Bool) (holds : Holds d ol
       ranges = (λ i. mmio_ranges (registers i)) ∙ holds.ranges ∙ (λ i. ranges_of (sym gtt i));
       below = subst (λ g. number_of g < 8) (sym gtt) holds.below;
       engines = λ k below. subst (λ element. StandsOn d new k (here k) element) (sym (same-element k)) (stands-still k (engine_at old k).element (holds.engines k below));
+      beside = beside-same old new same-element holds.beside;
+      away = subst (λ g. IsAway d (number_of g) here) (sym gtt) holds.away;
       none_above = holds.none_above;
       sixteen = holds.sixteen;
       kept = still-sixteen;
     };
-    frames = λ i. frames_of (gtt i);
+    number = λ i. number_of (gtt i);
+    frames = λ i. length (frames_of (gtt i)).pages;
     ranges = λ i. ranges_of (gtt i);
     outside = refl;
-    live = subst (λ g. LiveFollows (length (frames_of old.gtt).pages) d d (nodes_in old.gtt) (nodes_in g)) (sym gtt) (record { others = refl; exact = λ enough. refl });
+    live = moves-none d (own_live old) (own_live new) (own-same old new same-element gtt);
   }

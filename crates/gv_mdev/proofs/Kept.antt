@@ -1,5 +1,5 @@
 -- What a change of a guest's memory and tables leaves of its engines.
-use Rattle.std.proofs.Common.{◌≡◌, ℕ, ◌+◌, ◌%◌, ◌<◌, Bool, true, false, Option, None, Some, List, length, slice_index_or, if◌then◌else◌, refl, sym, ◌∙◌, subst, arith}
+use Rattle.std.proofs.Common.{◌≡◌, ◌≢◌, ℕ, ◌+◌, ◌%◌, ◌<◌, Bool, true, false, Option, None, Some, List, length, slice_index_or, if◌then◌else◌, refl, sym, ◌∙◌, subst, arith}
 use Rattle.std.proofs.lemmas.Bool.Decides.{nat_tests}
 use Rattle.gv_types.specs.declared.ranges.Ranges.{Ranges}
 use Rattle.gv_element.specs.Works.{Held, HasNoPage, Misses, Works, WorksWith, left_of}
@@ -24,9 +24,10 @@ use Rattle.gv_mdev.specs.Mdev.{engine_at, engine_in, element_in, general_in, no_
 use Rattle.gv_mdev.specs.Standing.{Holds, StandsAtWork, StandsIdle, StandsOn}
 use Rattle.gv_mdev.specs.declared.mdev.Mdev.{Mdev}
 use Rattle.gv_mdev.proofs.Engines.{each-engine}
+use Rattle.gv_mdev.proofs.Same.{beside-same}
 
 -- the entries of a window are above those of all ranges
-past-ranges : (ranges : Ranges) (guest engine i : ℕ) → InParts ranges → is_in_window guest engine i ≡ true → owns_page ranges i ≡ false
+pub past-ranges : (ranges : Ranges) (guest engine i : ℕ) → InParts ranges → is_in_window guest engine i ≡ true → owns_page ranges i ≡ false
 past-ranges ranges guest engine i parts is = let low = parts.low in let high = parts.high in grind (arith, nat_tests)
 
 -- memory and tables, before and after, miss a window that has none of their pages
@@ -94,7 +95,7 @@ module _ (d e : Device) (old new : Mdev) (here : ℕ → Bool) (holds : Holds d 
   number-same : number_of new.gtt ≡ number_of old.gtt
   number-same = λ i. (changes.frames i).guest
 
-  engine-same : (k : ℕ) → engine_at new k ≡ engine_at old k
+  pub engine-same : (k : ℕ) → engine_at new k ≡ engine_at old k
   engine-same k = λ i. slice_index_or (engines i) k no_engine
 
   general-same : (k : ℕ) → e.general k ≡ d.general k
@@ -150,6 +151,8 @@ module _ (d e : Device) (old new : Mdev) (here : ℕ → Bool) (holds : Holds d 
     ranges = (λ i. mmio_ranges (registers i)) ∙ holds.ranges ∙ sym changes.ranges;
     below = subst (λ g. g < 8) (sym number-same) holds.below;
     engines = λ k four. subst (λ x. StandsOn e new k (here k) x.element) (sym (engine-same k)) (stands-after k (engine_at old k).element (holds.engines k four));
+    beside = beside-same old new (λ k i. (engine-same k i).element) holds.beside;
+    away = λ k below other l is. subst (λ g. l.owner ≢ g) (sym number-same) (holds.away k below other l ((λ i. (sym changes.outside i).loaded k) ∙ is));
     none_above = holds.none_above;
     sixteen = λ k n own above. (λ i. general-same k i n) ∙ holds.sixteen k n own above;
     kept = λ k four. subst (λ x. length x.kept ≡ 16) (sym (engine-same k)) (holds.kept k four);

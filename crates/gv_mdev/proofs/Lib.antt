@@ -1,7 +1,37 @@
 mod Working
 mod First
 mod Engines
+mod Same
+mod Failing
+mod Staying
+mod Clearing
+mod StartingOver
+mod Resets
+mod ResetAll
+mod Zeros
+pub mod Others
+pub mod Small
+mod Raised
+mod Ended
+mod Finished
+mod Stepped
+mod Running
+mod Outcomes
 pub mod Kept
 pub mod Written
 pub mod Registers
 pub mod General
+mod Stopping
+mod Words
+mod Roots
+mod Made
+mod Runs
+mod Dwords
+mod Pairs
+mod Moves
+mod Images
+mod Steps
+mod Loads
+mod Refused
+mod NextLoaded
+mod Announced

@@ -7,22 +7,20 @@ use Rattle.gv_gpu.specs.Device.{Device}
 use Rattle.gv_gpu.specs.Part.{guest_part, outside}
 use Rattle.gv_gtt.specs.Gtt.{frames_of, gtt_part, nodes_in, number_of, over, ranges_of, roots_in}
 use Rattle.gv_gtt.specs.Standing.{Translates}
-use Rattle.gv_gtt.proofs.Steps.{live-then}
-use Rattle.gv_guest.specs.Placed.{Placed}
 use Rattle.gv_mmio.specs.Mmio.{SameGuest, behind, ports_at}
 use Rattle.gv_csb.specs.Slots.{pushed}
 use Rattle.gv_csb.specs.declared.status.Status.{Status}
 use Rattle.gv_private.specs.Device.{PrivateDevice, new_device}
 use Rattle.gv_private.specs.Status.{in_ring}
-use Rattle.gv_sppgtt.specs.State.{LiveFollows}
 use Rattle.gv_sring.specs.Window.{WindowIsAbsent}
 use Rattle.gv_turn.specs.Owned.{OwnsLeft}
 use Rattle.gv_types.specs.declared.ranges.Ranges.{Ranges}
-use Rattle.gv_mdev.specs.Changes.{Keeps}
+use Rattle.gv_mdev.specs.Changes.{Keeps, own_live}
 use Rattle.gv_mdev.specs.Mdev.{engine_at, engine_in, no_engine, private_of}
-use Rattle.gv_mdev.specs.Standing.{Holds, StandsOn}
+use Rattle.gv_mdev.specs.Standing.{Holds, IsAway, StandsOn}
 use Rattle.gv_mdev.specs.declared.mdev.Mdev.{Mdev}
 use Rattle.gv_mdev.proofs.General.{same-number}
+use Rattle.gv_mdev.proofs.Same.{beside-same, moves-none, moves-then, own-same}
 
 module _ (d : Device) (old new : Mdev) (here : ℕ → Bool) (holds : Holds d old here) (gtt : new.gtt ≡ old.gtt) (engines : new.engines ≡ old.engines) (failsafe : new.failsafe ≡ old.failsafe) where
   -- The private device has the new ones, and all else as it was.
@@ -61,28 +59,31 @@ module _ (d : Device) (old new : Mdev) (here : ℕ → Bool) (holds : Holds d ol
       ranges = same.ranges ∙ holds.ranges ∙ (λ i. ranges_of (sym gtt i));
       below = subst (λ g. number_of g < 8) (sym gtt) holds.below;
       engines = λ k four. subst (λ x. StandsOn d new k (here k) x.element) (sym (engine-same k)) (stands-moved k (engine_at old k).element (holds.engines k four));
+      beside = beside-same old new (λ k i. (engine-same k i).element) holds.beside;
+      away = subst (λ g. IsAway d (number_of g) here) (sym gtt) holds.away;
       none_above = holds.none_above;
       sixteen = holds.sixteen;
       kept = λ k four. subst (λ x. length x.kept ≡ 16) (sym (engine-same k)) (holds.kept k four);
     };
-    frames = λ i. frames_of (gtt i);
+    number = λ i. number_of (gtt i);
+    frames = λ i. length (frames_of (gtt i)).pages;
     ranges = λ i. ranges_of (gtt i);
     outside = refl;
-    live = subst (λ g. LiveFollows (length (frames_of old.gtt).pages) d d (nodes_in old.gtt) (nodes_in g)) (sym gtt) (record { others = refl; exact = λ enough. refl });
+    live = moves-none d (own_live old) (own_live new) (own-same old new (λ k i. (engine-same k i).element) gtt);
   }
 
 -- one call after another
 pub keeps-then : (here : ℕ → Bool) (d e f : Device) (a b c : Mdev) → Keeps here d e a b → Keeps here e f b c → Keeps here d f a c
 keeps-then here d e f a b c first second = record {
   holds = second.holds;
+  number = second.number ∙ first.number;
   frames = second.frames ∙ first.frames;
   ranges = second.ranges ∙ first.ranges;
   outside =
       subst (λ (ranges : Ranges). outside (guest_part (number_of a.gtt) ranges here) f ≡ outside (guest_part (number_of a.gtt) ranges here) e) first.ranges
-      (subst (λ (placed : Placed). outside (guest_part placed.guest (ranges_of b.gtt) here) f ≡ outside (guest_part placed.guest (ranges_of b.gtt) here) e) first.frames second.outside)
+      (subst (λ guest. outside (guest_part guest (ranges_of b.gtt) here) f ≡ outside (guest_part guest (ranges_of b.gtt) here) e) first.number second.outside)
       ∙ first.outside;
-  live = live-then (length (frames_of a.gtt).pages) d e f (nodes_in a.gtt) (nodes_in b.gtt) (nodes_in c.gtt) first.live
-      (subst (λ (placed : Placed). LiveFollows (length placed.pages) e f (nodes_in b.gtt) (nodes_in c.gtt)) first.frames second.live);
+  live = moves-then d e f (own_live a) (own_live b) (own_live c) first.live second.live;
 }
 
 -- an event in the ring stops no list

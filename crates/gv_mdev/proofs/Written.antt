@@ -1,19 +1,20 @@
 -- What writes of a guest's memory and tables leave.
-use Rattle.std.proofs.Common.{◌≡◌, ℕ, Bool, sym, ◌∙◌}
+use Rattle.std.proofs.Common.{◌≡◌, ℕ, Bool, length, slice_index_or, sym, ◌∙◌}
 use Rattle.gv_types.specs.declared.event.Width.{Width}
 use Rattle.gv_entry.specs.Global.{entry_of, with_entry}
 use Rattle.gv_gpu.specs.Device.{Device}
 use Rattle.gv_gtt.specs.Changes.{Changes}
-use Rattle.gv_gtt.specs.Gtt.{over, ranges_of, entries_of}
+use Rattle.gv_gtt.specs.Gtt.{frames_of, over, ranges_of, entries_of}
 use Rattle.gv_gtt.specs.Standing.{Translates}
 use Rattle.gv_gtt.proofs.Others.{changes_stay_inside}
 use Rattle.gv_private.specs.Access.{entry_after, page_at, table_written}
 use Rattle.gv_private.specs.Device.{PrivateDevice}
 use Rattle.gv_mdev.specs.Changes.{Keeps}
-use Rattle.gv_mdev.specs.Mdev.{private_of}
+use Rattle.gv_mdev.specs.Mdev.{no_engine, private_of}
 use Rattle.gv_mdev.specs.Standing.{Holds}
 use Rattle.gv_mdev.specs.declared.mdev.Mdev.{Mdev}
 use Rattle.gv_mdev.proofs.Kept.{KeepsRoots, holds-after, private-after}
+use Rattle.gv_mdev.proofs.Same.{moves-with-tables}
 use Rattle.gv_mdev.proofs.Working.{over-private}
 
 module _ (d e : Device) (old new : Mdev) (here : ℕ → Bool) (holds : Holds d old here) (changes : Changes d e old.gtt new.gtt) (registers : new.mmio ≡ old.mmio) (engines : new.engines ≡ old.engines) (failsafe : new.failsafe ≡ old.failsafe) where
@@ -21,11 +22,15 @@ module _ (d e : Device) (old new : Mdev) (here : ℕ → Bool) (holds : Holds d 
   pub keeps-after : Translates e new.gtt → KeepsRoots old.gtt new.gtt → Keeps here d e old new
   keeps-after translates roots = record {
     holds = holds-after d e old new here holds changes registers engines failsafe translates roots;
-    frames = changes.frames;
+    number = λ i. (changes.frames i).guest;
+    frames = frames-same;
     ranges = changes.ranges;
     outside = changes_stay_inside d e old.gtt new.gtt here changes;
-    live = changes.live;
+    live = moves-with-tables old new (λ k i. (slice_index_or (engines i) k no_engine).element) d e frames-same changes.live;
   }
+    where
+      frames-same : length (frames_of new.gtt).pages ≡ length (frames_of old.gtt).pages
+      frames-same = λ i. length (changes.frames i).pages
 
   -- a write of an entry of the global table
   pub table-written :

@@ -4,4 +4,11 @@ pub mod General
 pub mod Standing
 pub mod Idle
 pub mod Changes
+pub mod Reset
+pub mod Listed
+pub mod Pair
+pub mod Loading
+pub mod Turn
+pub mod Access
 pub mod Laws
+pub mod Seen

@@ -12,7 +12,7 @@ pub struct Engine {
 
 impl Engine {
     // Without an element, and with general registers of zeros.
-    fn new() -> Engine
+    pub(crate) fn new() -> Engine
         ensures element { result.element ≡ None }
         ensures zeros { (n : ℕ) → slice_index_or result.kept n 0 ≡ 0 }
         ensures sixteen { length result.kept ≡ 16 }

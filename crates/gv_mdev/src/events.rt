@@ -2,7 +2,7 @@ ghost use Rattle.std.specs.Prelude.{◌≡◌, ℕ, ◌+◌, ◌*◌, ◌%◌, �
 ghost use Rattle.gv_gpu.specs.Device.{Device};
 ghost use Rattle.gv_private.specs.Grants.{global_written};
 ghost use Rattle.gv_private.specs.Status.{bit_raised, copied, event_given, in_ring};
-ghost use Rattle.gv_mdev.specs.Changes.{Keeps, Makes};
+ghost use Rattle.gv_mdev.specs.Changes.{Keeps, Makes, injected};
 ghost use Rattle.gv_mdev.specs.Mdev.{private_of};
 ghost use Rattle.gv_mdev.specs.Owners.{is_here};
 ghost use Rattle.gv_mdev.specs.Standing.{Holds};
@@ -20,7 +20,7 @@ impl Mdev {
     pub fn raise(&mut self, engine: EngineId, bit: u8) -> Option<u32>
         requires engine { engine.0 < 4 }
         requires bit { bit < 16 }
-        ensures { (d : Device) (here : ℕ → Bool) → Holds d self.old here → Makes here d d self.old self.new (bit_raised (private_of d self.old here) engine.0 bit) result }
+        ensures { (d : Device) (here : ℕ → Bool) → Holds d self.old here → Makes here d d self.old self.new (bit_raised (private_of d self.old here) engine.0 bit) (injected result) }
     {
         self.mmio.raise(engine, bit)
     }
@@ -37,7 +37,7 @@ impl Mdev {
     }
 
     // Writes a dword of the guest's global space.
-    fn write_global<G: Gpu>(&self, gpu: &mut G, here: [bool; 4], at: u64, value: u32)
+    pub(crate) fn write_global<G: Gpu>(&self, gpu: &mut G, here: [bool; 4], at: u64, value: u32)
         requires holds { Holds (G.state gpu.old) self.now (is_here here) }
         requires aligned { at % 4 ≡ 0 }
         requires below { at < 2 ^ 32 }
@@ -80,7 +80,7 @@ impl Mdev {
     ) -> Option<u32>
         requires holds { Holds (G.state gpu.old) self.old (is_here here) }
         requires engine { engine.0 < 4 }
-        ensures { Makes (is_here here) (G.state gpu.old) (G.state gpu.new) self.old self.new (event_given (private_of (G.state gpu.old) self.old (is_here here)) engine.0 status) result }
+        ensures { Makes (is_here here) (G.state gpu.old) (G.state gpu.new) self.old self.new (event_given (private_of (G.state gpu.old) self.old (is_here here)) engine.0 status) (injected result) }
     {
         let index = self.push(engine, status);
         self.copy(gpu, here, engine, index, status);

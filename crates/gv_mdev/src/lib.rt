@@ -1,15 +1,24 @@
-//! One guest's device, whole, over the shared one: what it keeps, and the private device that it stands for. It is
-//! made and read, and has the writes that take no memory; writes to tables, submission, loading, turns and resets are
-//! to come.
+//! One guest's device, whole, over the shared one: what it keeps, and the private device that it stands for.
 #![tactic(auto)]
 
+mod access;
 mod engine;
 mod events;
+mod fetch;
 mod laws;
+mod load;
 mod mdev;
+mod memory;
+mod notice;
+mod notify;
+mod range;
 mod read;
+mod reset;
+mod stop;
+mod turn;
 mod write;
 
 pub use engine::Engine;
-pub use laws::a_step_is_its_turn;
+pub use laws::{a_step_is_its_turn, devices_are_small, other_guests_leave_it};
 pub use mdev::Mdev;
+pub use notice::{Notice, Turned};

@@ -1,6 +1,6 @@
 use Rattle.std.proofs.Common.{refl, false}
 use Rattle.gv_private.specs.Device.{new_device}
-use Rattle.gv_mdev.proofs.First.{first-device, first-holds, idle-same, windows-same}
+use Rattle.gv_mdev.proofs.First.{first-device, first-holds, first-own, idle-same, windows-same}
 use Rattle.gv_mdev.proofs.mdev.Mdev.new.Goals as goal
 
 pub returns-clause-device : goal.returns-clause-device
@@ -16,3 +16,7 @@ returns-clause-holds g c = λ here idle.
     (idle-same (g.G.Gpu.state c.args.gpu.now) (g.G.Gpu.state c.new.new.gpu) c.args.guest.0 here c.in_ok-gtt.ensures.outside idle)
     (windows-same (g.G.Gpu.state c.args.gpu.now) (g.G.Gpu.state c.new.new.gpu) c.args.guest.0 c.in_ok-gtt.ensures.outside c.requires.windows)
     c.first_engines.ensures.elements c.first_engines.ensures.sixteen
+
+pub returns-clause-own : goal.returns-clause-own
+returns-clause-own g c =
+    first-own (record { gtt = c.in_ok-gtt.gtt; mmio = c.new-2.result; failsafe = false; engines = c.first_engines.result; four = c.result-1.given.0 }) c.args.frames c.in_ok-gtt.ensures.frames c.in_ok-gtt.ensures.none c.first_engines.ensures.elements

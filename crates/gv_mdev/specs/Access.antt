@@ -1,0 +1,41 @@
+-- An access of a guest, or a move of a frame, and its reply.
+use Rattle.std.specs.Prelude.{◌≡◌, ℕ, ◌%◌, ◌<◌, ◌≤◌, Bool, ⊤}
+use Rattle.gv_types.specs.Memory.{bytes_of, all_ones}
+use Rattle.gv_types.specs.Places.{end_of}
+use Rattle.gv_types.specs.declared.event.Event.{Event}
+use Rattle.gv_types.specs.declared.event.Event.TheVariants.{Read, Write, Move}
+use Rattle.gv_types.specs.declared.ids.GuestId.{GuestId}
+use Rattle.gv_types.specs.declared.reply.Reply.{Reply}
+use Rattle.gv_gpu.specs.Device.{Device}
+use Rattle.gv_private.specs.Device.{PrivateDevice}
+use Rattle.gv_private.specs.Inputs.{Answered}
+use Rattle.gv_mdev.specs.Changes.{Keeps, journalled}
+use Rattle.gv_mdev.specs.Listed.{MayFault, MayLackMemory}
+use Rattle.gv_mdev.specs.Mdev.{private_of}
+use Rattle.gv_mdev.specs.declared.mdev.Mdev.{Mdev}
+
+-- A read or a write of a guest, which is aligned and within its place, and whose value fits; or a move of a frame that
+-- the guest has, of so many.
+abbrev pub IsAccess : ℕ → ℕ → Event → Type 0
+IsAccess number frames (Read guest place width at) = (guest.0 ≡ number) × (at % bytes_of width ≡ 0) × (at < end_of place)
+IsAccess number frames (Write guest place width at value) = (guest.0 ≡ number) × (at % bytes_of width ≡ 0) × (at < end_of place) × (value ≤ all_ones width)
+IsAccess number frames (Move guest frame) = (guest.0 ≡ number) × (frame < frames)
+IsAccess number frames event = ⊥
+
+-- It replies what the private device does, leaves what that leaves, and the journal has the commands that ran.
+pub record Replies (here : ℕ → Bool) (d e : Device) (old new : Mdev) (a : Answered) (reply : Reply) : Type 0 where
+  pub reply_is : a.reply ≡ reply
+  pub left : a.left ≡ private_of e new here
+  pub keeps : Keeps here (journalled d a.ran) e old new
+
+-- ---- at which accesses the device may fault, and which may lack memory
+
+abbrev pub AccessMayFault : PrivateDevice → Event → Type 0
+AccessMayFault p (Write guest place width at value) = MayFault p place width at value
+AccessMayFault p event = ⊥
+
+-- a move takes a page for the frame
+abbrev pub AccessMayLackMemory : PrivateDevice → Event → Type 0
+AccessMayLackMemory p (Write guest place width at value) = MayLackMemory p place width at
+AccessMayLackMemory p (Move guest frame) = ⊤
+AccessMayLackMemory p event = ⊥
