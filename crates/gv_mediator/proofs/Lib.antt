@@ -1,0 +1,7 @@
+mod Room
+mod Owning
+mod OneGuest
+mod Receiving
+mod Joining
+mod FirstGuests
+mod Memories

@@ -1,0 +1,6 @@
+pub mod Rota
+pub mod Tied
+pub mod Event
+pub mod First
+pub mod Joining
+pub mod Laws

@@ -1,0 +1,99 @@
+ghost use Rattle.std.specs.Prelude.{◌≡◌, ◌<◌, ◌≤◌, length, map, [], ◌∷◌, false, Some, is_err, IfOk, IfErr, OnOk, OnErr, IsErrOf};
+ghost use Rattle.gv_gpu.specs.Change.{Ran};
+ghost use Rattle.gv_gpu.specs.Device.{counted};
+ghost use Rattle.gv_gtt.specs.Gtt.{frames_of, number_of};
+ghost use Rattle.gv_machine.specs.Machine.{Happened, Machine, event_receiver, guest_in};
+ghost use Rattle.gv_sched.specs.Rota.{owner_of};
+ghost use Rattle.gv_private.specs.Inputs.{answer};
+ghost use Rattle.gv_mdev.specs.Access.{Replies};
+ghost use Rattle.gv_mdev.specs.Changes.{Stops};
+ghost use Rattle.gv_mediator.specs.Event.{IsEvent, IsGuestEvent, entries_ran, event_done};
+ghost use Rattle.gv_mdev.specs.Mdev.{private_of};
+ghost use Rattle.gv_mdev.specs.Owners.{is_here};
+ghost use Rattle.gv_mdev.specs.Standing.{HasRoomToLoad, Holds};
+ghost use Rattle.gv_mediator.specs.Tied.{Tied, machine_of};
+
+use crate::mediator::Mediator;
+use gv_gpu::Gpu;
+use gv_mdev::Mdev;
+use gv_types::{Answer, Event, GuestId, Reply, Stop};
+use std::alloc::Global;
+
+// One event of a guest, over its device.
+fn answer<G: Gpu>(
+    alloc: Global,
+    gpu: &mut G,
+    device: &mut Mdev,
+    guest: GuestId,
+    here: [bool; 4],
+    event: &Event,
+) -> Result<Reply, Stop>
+    requires holds { Holds (G.state gpu.old) device.old (is_here here) }
+    requires number { guest.0 ≡ number_of device.old.gtt }
+    requires room { HasRoomToLoad (G.state gpu.old) device.old }
+    requires below { (G.state gpu.old).live < 131072 }
+    requires event { IsGuestEvent (number_of device.old.gtt) (length (frames_of device.old.gtt).pages) (is_here here) event.now }
+    ensures replies { IfOk result (λ reply. Replies (is_here here) (G.state gpu.old) (G.state gpu.new) device.old device.new (answer (private_of (G.state gpu.old) device.old (is_here here)) event.now) reply) }
+    ensures stops { IfErr result (λ stop. Stops (is_here here) (G.state gpu.old) (G.state gpu.new) device.old stop) }
+{
+    match event {
+        Event::Turn { engine } => {
+            let turned = device.turn(alloc, gpu, here, *engine)?;
+            Ok(turned.notice.reply(guest, Answer::Turn(turned.outcome)))
+        }
+        Event::Reset { guest } => match device.reset(gpu, here) {
+            Ok(()) => Ok(Reply {
+                guest: *guest,
+                answer: Answer::Nothing,
+                irq: None,
+                failsafe: None,
+            }),
+            Err(_) => Err(Stop::DeviceFault),
+        },
+        _ => device.access(gpu, here, event),
+    }
+}
+
+impl Mediator {
+    // The guest whose device takes an event: the one that it names, or the owner of its engine.
+    fn receiver(&self, event: &Event) -> GuestId
+        requires { (m : Machine) × IsEvent m event.now }
+        ensures { guest_in (event_receiver (owner_of self.now.rota) event.now) ≡ Some result.0 }
+    {
+        match event {
+            Event::Read { guest, .. } => *guest,
+            Event::Write { guest, .. } => *guest,
+            Event::Move { guest, .. } => *guest,
+            Event::Reset { guest } => *guest,
+            Event::Turn { engine } => self.rota.owner(*engine),
+            Event::Switch { .. } => unreachable!(),
+        }
+    }
+
+    /// One event: the reply is that of the machine, which is as after the event then. After a `Stop` no further event is
+    /// taken.
+    pub fn event<G: Gpu>(
+        &mut self,
+        alloc: Global,
+        gpu: &mut G,
+        event: &Event,
+    ) -> Result<Reply, Stop>
+        requires tied { Tied (G.state gpu.old) self.old }
+        requires running { self.old.stopped ≡ false }
+        requires event { IsEvent (machine_of (G.state gpu.old) self.old) event.now }
+        ensures reply { IfOk result (λ reply. map (λ (h : Happened). h.reply) (event_done (machine_of (G.state gpu.old) self.old) event.now).came ≡ reply ∷ []) }
+        ensures machine { OnOk result (machine_of (G.state gpu.new) self.new ≡ (event_done (machine_of (G.state gpu.old) self.old) event.now).left) }
+        ensures tied { OnOk result (Tied (G.state gpu.new) self.new) }
+        ensures ran { OnOk result (Ran (G.state gpu.old) (G.state gpu.new) (entries_ran (event_done (machine_of (G.state gpu.old) self.old) event.now).came)) }
+        ensures stopped { OnErr result (Ran (G.state gpu.old) (G.state gpu.new) []) }
+        ensures stops { self.new.stopped ≡ is_err result }
+        ensures cause { IsErrOf result Stop.DeviceFault → counted (G.state gpu.old).faults ≤ (G.state gpu.new).faults }
+    {
+        let guest = self.receiver(event);
+        let here = self.owned_by(guest);
+        let device = &mut self.guests[guest.0 as usize];
+        let answer = answer(alloc, gpu, device, guest, here, event);
+        self.stopped = answer.is_err();
+        answer
+    }
+}
