@@ -19,7 +19,7 @@ use Rattle.gv_lines.specs.declared.next.Next.{Next}
 use Rattle.gv_lines.specs.declared.next.Next.TheVariants as nexts
 use Rattle.gv_lines.proofs.ComingIn.{coming_in-whole, coming_in-cut}
 use Rattle.gv_run.specs.Streamed.{ending_at}
-use Rattle.gv_run.proofs.Limit.{script_whole, script_cut}
+use Rattle.gv_machine.proofs.Scripts.{script-whole, script-cut}
 
 -- the script of the lines that are still to come, from line number n on
 abbrev pub script_ahead : Known → ℕ → Coming → Script
@@ -28,8 +28,8 @@ script_ahead known n c = script_from c.whole known n c.lines
 -- The lines that a reader hands out of a source make the script of its bytes.
 pub lines_make_the_script : (bytes : List ℕ) → script_of bytes ≡ script_coming (coming_in script_limit bytes)
 lines_make_the_script bytes = ⊎_elim
-    (λ (past : script_limit < length bytes). script_cut bytes past ∙ ap script_coming (sym (coming_in-cut script_limit bytes past)))
-    (λ (within : length bytes ≤ script_limit). script_whole bytes within ∙ ap script_coming (sym (coming_in-whole script_limit bytes within)))
+    (λ (past : script_limit < length bytes). script-cut bytes past ∙ ap script_coming (sym (coming_in-cut script_limit bytes past)))
+    (λ (within : length bytes ≤ script_limit). script-whole bytes within ∙ ap script_coming (sym (coming_in-whole script_limit bytes within)))
     (cases_lt script_limit (length bytes))
 
 -- before the first line all is still to come

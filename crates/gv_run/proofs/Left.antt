@@ -1,141 +1,151 @@
--- What is left of a script, line by line.
-use Rattle.std.proofs.Common.{◌≡◌, ℕ, Bool, true, false, List, [], ◌++◌, Option, None, Some, cond, refl, ap, sym, ◌∙◌, subst}
-use Rattle.std.proofs.lemmas.List.{append_assoc, append-nil}
-use Rattle.std.proofs.lemmas.Grind.{flat_map-append}
+-- What is left of a course that is run over the shared device.
+use Rattle.std.proofs.Common.{◌≡◌, ℕ, List, [], ◌++◌, map, refl, ap, sym, ◌∙◌, subst}
+use Rattle.std.proofs.lemmas.List.{append_assoc, append-nil, map-append}
 use Rattle.gv_text.specs.Report.{text_of}
-use Rattle.gv_text.specs.Script.{Script, script_from, script_on, ends, onto_script, lines_of, counts_last, accepted, known_after, is_end}
-use Rattle.gv_text.specs.declared.ending.Ending.TheVariants.{Done, BadScript}
-use Rattle.gv_text.specs.declared.known.Known.{Known}
+use Rattle.gv_text.specs.Script.{Script, onto_script}
 use Rattle.gv_text.specs.declared.script_line.Line.{Line}
-use Rattle.gv_gpu.specs.Change.{Ran, RanUpTo, RanPart}
+use Rattle.gv_gpu.specs.Change.{Ran, RanPart}
 use Rattle.gv_gpu.specs.Device.{Device, JournalEntry}
-use Rattle.gv_run.specs.Course.{Course, onto}
-use Rattle.gv_run.specs.Machine.{Machine, Done as Came, line_course, ran_in, ran_all}
-use Rattle.gv_run.specs.Report.{said_of, said_all, course_of}
-use Rattle.gv_run.specs.Tied.{Plays, first_owner, machine_in}
-use Rattle.gv_run.specs.declared.run.Run.{Run}
-use Rattle.gv_run.proofs.Text.{said_more, said_none}
+use Rattle.gv_private.specs.Turn.{JournalEntry as PrivateEntry}
+use Rattle.gv_machine.specs.Course.{Course, onto}
+use Rattle.gv_machine.specs.Machine.{Machine, Done, line_course, ran_all}
+use Rattle.gv_machine.specs.Report.{said_all, course_of}
+use Rattle.gv_machine.proofs.Left.{Left, LeftOf, Played, left-all, left-none, left-whole, goes-on, began, line-done, line-began}
+use Rattle.gv_machine.proofs.Text.{said_none}
+use Rattle.gv_mdev.specs.Changes.{entry_of}
+use Rattle.gv_run.specs.Tied.{Plays, entries_in}
 
--- the script from line number n on
-abbrev pub left_of : Bool → Known → ℕ → List ℕ → Script
-left_of whole known n rest = script_from whole known n (lines_of (counts_last whole) rest)
+-- ---- what ran
 
--- what the next line, of these bytes, makes of a script
-module _ (known : Known) (n : ℕ) (bytes : List ℕ) (rest : Known → Script) (script : Script) (is : script ≡ script_on known n (accepted known bytes) rest) where
-  on_line : (o : Option Line) → accepted known bytes ≡ o → script ≡ script_on known n o rest
-  on_line o found = is ∙ ap (λ o. script_on known n o rest) found
-
-  pub left_refused : accepted known bytes ≡ None → script ≡ ends (BadScript n)
-  left_refused found = on_line None found
-
-  by_end : (line : Line) (b : Bool) → accepted known bytes ≡ Some line → is_end line ≡ b → script ≡ cond b (ends Done) (onto_script line (rest (known_after known line)))
-  by_end line b found last = on_line (Some line) found ∙ ap (λ b. cond b (ends Done) (onto_script line (rest (known_after known line)))) last
-
-  pub left_ended : (line : Line) → accepted known bytes ≡ Some line → is_end line ≡ true → script ≡ ends Done
-  left_ended line found last = by_end line true found last
-
-  pub left_line : (line : Line) → accepted known bytes ≡ Some line → is_end line ≡ false → script ≡ onto_script line (rest (known_after known line))
-  left_line line found last = by_end line false found last
-
--- ---- what was done, and what is left
-
--- What was done and the course c of what is left are the whole course, from a text and a device on.
-pub record Left (all : Course Machine Came) (before : List ℕ) (start : Device) (c : Course Machine Came) (now : List ℕ) (d : Device) : Type 0 where
-  pub machine : c.left ≡ all.left
-  pub report : now ++ text_of (said_all c.came) ≡ before ++ text_of (said_all all.came)
-  pub ran : RanUpTo start d (ran_all c.came) (ran_all all.came)
-
-pub all_left : (all : Course Machine Came) (before : List ℕ) (start : Device) → Left all before start all before start
-all_left all before start = record {
-  machine = refl;
-  report = refl;
-  ran = record { done = []; ran = record { journal = sym (append-nil start.journal); strays = refl }; front = refl };
-}
+-- nothing ran
+pub ran-none : (d : Device) → Ran d d []
+ran-none d = record { journal = sym (append-nil d.journal); strays = refl }
 
 -- these commands ran, one after another
-ran_then : {d e f : Device} {xs ys : List JournalEntry} → Ran d e xs → Ran e f ys → Ran d f (xs ++ ys)
-ran_then {d} {e} {f} {xs} {ys} first second = record {
+pub ran-then : {d e f : Device} {xs ys : List JournalEntry} → Ran d e xs → Ran e f ys → Ran d f (xs ++ ys)
+ran-then {d} {e} {f} {xs} {ys} first second = record {
   journal = second.journal ∙ ap (λ z. z ++ ys) first.journal ∙ append_assoc d.journal xs ys;
   strays = second.strays ∙ first.strays;
 }
 
-module _ (all : Course Machine Came) (before : List ℕ) (start : Device) where
-  module _ (first rest : Course Machine Came) (now : List ℕ) (d : Device) (kept : Left all before start (onto first rest) now d) where
-    ran_split : ran_all (first.came ++ rest.came) ≡ ran_all first.came ++ ran_all rest.came
-    ran_split = flat_map-append ran_in first.came rest.came
-
-    pub goes_on : (later : List ℕ) (e : Device) → later ≡ now ++ text_of (said_all first.came) → Ran d e (ran_all first.came) → Left all before start rest later e
-    goes_on later e told ran = record {
-      machine = kept.machine;
-      report = said_more now later (said_all first.came) (said_all rest.came) told
-          ∙ ap (λ z. now ++ text_of z) (sym (flat_map-append said_of first.came rest.came)) ∙ kept.report;
-      ran = record {
-        done = kept.ran.done ++ ran_all first.came;
-        ran = ran_then kept.ran.ran ran;
-        front = append_assoc kept.ran.done (ran_all first.came) (ran_all rest.came) ∙ ap (λ z. kept.ran.done ++ z) (sym ran_split) ∙ kept.ran.front;
-      };
-    }
-
-    -- the first of what is left began
-    pub stops_within : (e : Device) → RanPart d e (ran_all first.came) → RanPart start e (ran_all all.came)
-    stops_within e part = record {
-      left = part.left ++ ran_all rest.came;
-      part = record {
-        done = kept.ran.done ++ part.part.done;
-        ran = ran_then kept.ran.ran part.part.ran;
-        front =
-            append_assoc kept.ran.done part.part.done (part.left ++ ran_all rest.came)
-            ∙ ap (λ z. kept.ran.done ++ z) (sym (append_assoc part.part.done part.left (ran_all rest.came)) ∙ ap (λ z. z ++ ran_all rest.came) part.part.front ∙ sym ran_split)
-            ∙ kept.ran.front;
-      };
-    }
-
-  pub left-part : (c : Course Machine Came) (now : List ℕ) (d : Device) → Left all before start c now d → RanPart start d (ran_all all.came)
-  left-part c now d kept = record { left = ran_all c.came; part = kept.ran }
-
--- nothing is left of a course
-pub over : (all c : Course Machine Came) (start : Device) (old : Run) (d : Device) (new : Run) → Left all old.report start c new.report d → c ≡ record { left = machine_in d first_owner new.guests.items; came = [] } → Plays all start old d new
-over all c start old d new kept is =
-    let whole : kept.ran.done ≡ ran_all all.came = sym (append-nil kept.ran.done) ∙ sym (ap (λ (c : Course Machine Came). kept.ran.done ++ ran_all c.came) is) ∙ kept.ran.front in
-    record {
-      machine = sym (ap (λ (c : Course Machine Came). c.left) is) ∙ kept.machine;
-      report = said_none new.report ∙ sym (ap (λ (c : Course Machine Came). new.report ++ text_of (said_all c.came)) is) ∙ kept.report;
-      ran = subst (Ran start d) whole kept.ran.ran;
-    }
+-- and then nothing
+pub ran-still : {d e f : Device} {xs : List JournalEntry} → Ran d e xs → Ran e f [] → Ran d f xs
+ran-still {d} {e} {f} {xs} first second = subst (λ (l : List JournalEntry). Ran d f l) (append-nil xs) (ran-then first second)
 
 -- what ran is all of it, as far as that goes
 pub ran-whole : {d e : Device} {xs : List JournalEntry} → Ran d e xs → RanPart d e xs
 ran-whole {d} {e} {xs} ran = record { left = []; part = record { done = xs; ran = ran; front = append-nil xs } }
 
--- before anything ran
-pub ran-before : (d : Device) (xs : List JournalEntry) → RanPart d d xs
-ran-before d xs = record { left = xs; part = record { done = []; ran = record { journal = sym (append-nil d.journal); strays = refl }; front = refl } }
+-- nothing ran of what was to run
+pub ran-before : {d e : Device} → Ran d e [] → (xs : List JournalEntry) → RanPart d e xs
+ran-before {d} {e} none xs = record { left = xs; part = record { done = []; ran = none; front = refl } }
+
+entries-append : (xs ys : List PrivateEntry) → map entry_of (xs ++ ys) ≡ map entry_of xs ++ map entry_of ys
+entries-append xs ys = map-append entry_of xs ys
+
+-- ---- a course
+
+-- What was done over the shared device and the course c of what is left are the whole course.
+pub record Goes (all : Course Machine Done) (before : List ℕ) (start : Device) (c : Course Machine Done) (now : List ℕ) (d : Device) : Type 0 where
+  pub ran : List PrivateEntry
+  pub done : Ran start d (map entry_of ran)
+  pub left : Left all before c now ran
+
+pub goes-all : (all : Course Machine Done) (before : List ℕ) (start : Device) → Goes all before start all before start
+goes-all all before start = record { ran = []; done = ran-none start; left = left-all all before }
+
+-- where a front of commands ran, by all that ran before
+front-of : {start d e : Device} (ran whole some : List PrivateEntry) (rest : List PrivateEntry) → Ran start d (map entry_of ran) → (ran ++ whole) ++ rest ≡ some → RanPart d e (map entry_of whole) → RanPart start e (map entry_of some)
+front-of {start} {d} {e} ran whole some rest done is part = record {
+  left = part.left ++ map entry_of rest;
+  part = record {
+    done = map entry_of ran ++ part.part.done;
+    ran = ran-then done part.part.ran;
+    front =
+        append_assoc (map entry_of ran) part.part.done (part.left ++ map entry_of rest)
+        ∙ ap (λ (z : List JournalEntry). map entry_of ran ++ z) (sym (append_assoc part.part.done part.left (map entry_of rest)) ∙ ap (λ (z : List JournalEntry). z ++ map entry_of rest) part.part.front)
+        ∙ sym (append_assoc (map entry_of ran) (map entry_of whole) (map entry_of rest))
+        ∙ ap (λ (z : List JournalEntry). z ++ map entry_of rest) (sym (entries-append ran whole))
+        ∙ sym (entries-append (ran ++ whole) rest)
+        ∙ ap (λ (z : List PrivateEntry). map entry_of z) is;
+  };
+}
+
+module _ (all : Course Machine Done) (before : List ℕ) (start : Device) where
+  module _ (first rest : Course Machine Done) (now : List ℕ) (d : Device) (kept : Goes all before start (onto first rest) now d) where
+    -- the first of what is left was done
+    pub went-on : (later : List ℕ) (e : Device) → later ≡ now ++ text_of (said_all first.came) → Ran d e (entries_in first.came) → Goes all before start rest later e
+    went-on later e told more = record {
+      ran = kept.ran ++ ran_all first.came;
+      done = subst (λ (l : List JournalEntry). Ran start e l) (sym (entries-append kept.ran (ran_all first.came))) (ran-then kept.done more);
+      left = goes-on all before first rest now kept.ran kept.left later told;
+    }
+
+    -- the first of what is left began
+    pub stops-within : (e : Device) → RanPart d e (entries_in first.came) → RanPart start e (entries_in all.came)
+    stops-within e part =
+        front-of kept.ran (ran_all first.came) (ran_all all.came) (ran_all rest.came) kept.done (whole-began (ran_all first.came) [] (append-nil (ran_all first.came))) part
+      where
+        whole-began : (some more : List PrivateEntry) → some ++ more ≡ ran_all first.came → (kept.ran ++ some) ++ (more ++ ran_all rest.came) ≡ ran_all all.came
+        whole-began some more front = began all before first rest now kept.ran kept.left some more front
+
+  -- what ran is a front of all
+  pub goes-part : (c : Course Machine Done) (now : List ℕ) (d : Device) → Goes all before start c now d → RanPart start d (entries_in all.came)
+  goes-part c now d kept = record {
+    left = map entry_of (ran_all c.came);
+    part = record {
+      done = map entry_of kept.ran;
+      ran = kept.done;
+      front = sym (entries-append kept.ran (ran_all c.came)) ∙ ap (λ (z : List PrivateEntry). map entry_of z) kept.left.journal;
+    };
+  }
+
+  -- the device goes on, and nothing runs
+  pub goes-still : (c : Course Machine Done) (now : List ℕ) (d e : Device) → Goes all before start c now d → Ran d e [] → Goes all before start c now e
+  goes-still c now d e kept none = record { ran = kept.ran; done = ran-still kept.done none; left = kept.left }
+
+  -- nothing is left
+  pub goes-over : (c : Course Machine Done) (m : Machine) (now : List ℕ) (d : Device) → Goes all before start c now d → c ≡ record { left = m; came = [] } → Plays all start before d m now
+  goes-over c m now d kept is =
+      let whole : Played all before m now kept.ran = left-none all before c m now kept.ran kept.left is in
+      record {
+        machine = whole.machine;
+        report = whole.report;
+        ran = subst (λ (l : List PrivateEntry). Ran start d (map entry_of l)) whole.journal kept.done;
+      }
 
 -- ---- the whole script
 
 -- what is left of a script is its ending too
-pub record LeftOf (m0 : Machine) (before : List ℕ) (start : Device) (all : Script) (m : Machine) (now : List ℕ) (d : Device) (left : Script) : Type 0 where
-  pub ending : left.ending ≡ all.ending
-  pub course : Left (course_of m0 all) before start (course_of m left) now d
+pub record GoesOf (m0 : Machine) (before : List ℕ) (start : Device) (all : Script) (m : Machine) (now : List ℕ) (d : Device) (rest : Script) : Type 0 where
+  pub ran : List PrivateEntry
+  pub done : Ran start d (map entry_of ran)
+  pub left : LeftOf m0 before all m now ran rest
 
-pub whole_left : (m0 : Machine) (before : List ℕ) (start : Device) (all : Script) → LeftOf m0 before start all m0 before start all
-whole_left m0 before start all = record { ending = refl; course = all_left (course_of m0 all) before start }
+pub goes-whole : (m0 : Machine) (before : List ℕ) (start : Device) (all : Script) → GoesOf m0 before start all m0 before start all
+goes-whole m0 before start all = record { ran = []; done = ran-none start; left = left-whole m0 before all }
 
-module _ (m0 m : Machine) (before now : List ℕ) (start d : Device) (all left : Script) (kept : LeftOf m0 before start all m now d left) where
+module _ (m0 m : Machine) (before now : List ℕ) (start d : Device) (all left : Script) (kept : GoesOf m0 before start all m now d left) where
+  pub script-goes : Goes (course_of m0 all) before start (course_of m left) now d
+  script-goes = record { ran = kept.ran; done = kept.done; left = kept.left.course }
+
+  -- the device goes on, and nothing runs
+  pub script-still : (e : Device) → Ran d e [] → GoesOf m0 before start all m now e left
+  script-still e none = record { ran = kept.ran; done = ran-still kept.done none; left = kept.left }
+
   module _ (line : Line) (rest : Script) (is : left ≡ onto_script line rest) where
-    first_left : Left (course_of m0 all) before start (onto (line_course m line) (course_of (line_course m line).left rest)) now d
-    first_left = subst (λ (c : Course Machine Came). Left (course_of m0 all) before start c now d) (ap (course_of m) is) kept.course
-
-    pub line-done : (next : Machine) (later : List ℕ) (e : Device) → next ≡ (line_course m line).left → later ≡ now ++ text_of (said_all (line_course m line).came) → Ran d e (ran_all (line_course m line).came) → LeftOf m0 before start all next later e rest
-    line-done next later e moved told ran = record {
-      ending = sym (ap (λ (s : Script). s.ending) is) ∙ kept.ending;
-      course = subst (λ (m : Machine). Left (course_of m0 all) before start (course_of m rest) later e) (sym moved)
-          (goes_on (course_of m0 all) before start (line_course m line) (course_of (line_course m line).left rest) now d first_left later e told ran);
+    pub line-went : (next : Machine) (later : List ℕ) (e : Device) → next ≡ (line_course m line).left → later ≡ now ++ text_of (said_all (line_course m line).came) → Ran d e (entries_in (line_course m line).came) → GoesOf m0 before start all next later e rest
+    line-went next later e moved told more = record {
+      ran = kept.ran ++ ran_all (line_course m line).came;
+      done = subst (λ (l : List JournalEntry). Ran start e l) (sym (entries-append kept.ran (ran_all (line_course m line).came))) (ran-then kept.done more);
+      left = line-done m0 m before now kept.ran all left kept.left line rest is next later moved told;
     }
 
-    pub line-began : (e : Device) → RanPart d e (ran_all (line_course m line).came) → RanPart start e (ran_all (course_of m0 all).came)
-    line-began e part = stops_within (course_of m0 all) before start (line_course m line) (course_of (line_course m line).left rest) now d first_left e part
+    pub line-stops : (e : Device) → RanPart d e (entries_in (line_course m line).came) → RanPart start e (entries_in (course_of m0 all).came)
+    line-stops e part =
+        front-of kept.ran (ran_all (line_course m line).came) (ran_all (course_of m0 all).came) (ran_all (course_of (line_course m line).left rest).came) kept.done
+        (line-began m0 m before now kept.ran all left kept.left line rest is (ran_all (line_course m line).came) [] (append-nil (ran_all (line_course m line).came))) part
 
 -- nothing is to be done
-pub plays_none : (d : Device) (run : Run) → Plays (record { left = machine_in d first_owner run.guests.items; came = [] }) d run d run
-plays_none d run = record { machine = refl; report = said_none run.report; ran = record { journal = sym (append-nil d.journal); strays = refl } }
+pub plays-none : (d e : Device) (m k : Machine) (told now : List ℕ) → k ≡ m → now ≡ told → Ran d e [] → Plays (record { left = m; came = [] }) d told e k now
+plays-none d e m k told now is same none = record { machine = is; report = same ∙ said_none told; ran = none }

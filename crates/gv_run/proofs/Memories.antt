@@ -1,28 +1,29 @@
 -- The memory of one guest, of those that are said.
-use Rattle.std.proofs.Common.{Bool, ◌≡◌, ℕ, ◌+◌, ◌<◌, ◌≤◌, List, [], ◌++◌, length, get_or, drop, ap, sym, ◌∙◌}
-use Rattle.std.proofs.lemmas.List.{at_drop_more, length-map, drop_all}
+use Rattle.std.proofs.Common.{◌≡◌, ℕ, ◌+◌, ◌<◌, ◌≤◌, List, [], ◌++◌, length, drop, ap, sym, ◌∙◌, subst}
+use Rattle.std.proofs.lemmas.List.{at_drop_more, drop_all}
 use Rattle.gv_gpu.specs.Device.{Device}
-use Rattle.gv_vgpu.specs.declared.vgpu.Vgpu.{Vgpu}
 use Rattle.gv_text.specs.Report.{text_of}
-use Rattle.gv_guest.specs.Placed.{memory_in}
-use Rattle.gv_vgpu.specs.Device.{PrivateDevice, new_device}
-use Rattle.gv_run.specs.Machine.{no_ranges}
-use Rattle.gv_run.specs.Report.{memory_said, memories_said}
-use Rattle.gv_run.specs.Tied.{machine_in}
-use Rattle.gv_run.proofs.OneGuest.{device-there}
-use Rattle.gv_run.proofs.Text.{said_more, said_none}
+use Rattle.gv_private.specs.Device.{PrivateDevice, new_device}
+use Rattle.gv_machine.specs.Machine.{Machine, no_ranges, device_at}
+use Rattle.gv_machine.specs.Report.{memory_said, memories_said}
+use Rattle.gv_machine.proofs.Text.{said_more, said_none}
+use Rattle.gv_mediator.specs.Laws.{HasMemories}
+use Rattle.gv_run.proofs.Words.{IsWhole, whole-stands}
 
-module _ (d : Device) (own : ℕ → ℕ → Bool) (guests : List Vgpu) (k : ℕ) where
-  pub memories_kept : (v : Vgpu) → k < length guests → get_or guests k v ≡ v → (before after all : List ℕ) → after ≡ before ++ text_of (memory_said k (memory_in d v.memory.frames)) → before ++ text_of (memories_said k (drop k (machine_in d own guests))) ≡ all → after ++ text_of (memories_said (k + 1) (drop (k + 1) (machine_in d own guests))) ≡ all
-  memories_kept v h at before after all said kept =
-      let m = machine_in d own guests in
-      let there : k < length m = rw length-map h in
-      let rest = memories_said (k + 1) (drop (k + 1) m) in
-      let step = at_drop_more (memories_said k) m k (new_device 0 0 no_ranges) there ∙ ap (λ (p : PrivateDevice). memory_said k p.memory ++ rest) (device-there own d guests k v h at) in
-      said_more before after (memory_said k (memory_in d v.memory.frames)) rest said ∙ ap (λ lines. before ++ text_of lines) (sym step) ∙ kept
+-- each frame of a guest has 512 words
+pub whole-memory : (d : Device) (m : Machine) (g : ℕ) → HasMemories d m → g < length m.devices → IsWhole (device_at m.devices g).memory
+whole-memory d m g has there =
+    let memory = has g there in
+    subst IsWhole memory.2 (whole-stands d (record { guest = g; pages = memory.0 }) memory.1)
 
-  pub memories_done : length guests ≤ k → (before all : List ℕ) → before ++ text_of (memories_said k (drop k (machine_in d own guests))) ≡ all → before ≡ all
-  memories_done past before all kept =
-      let m = machine_in d own guests in
-      let none : drop k m ≡ [] = drop_all k m (rw length-map past) in
+module _ (devices : List PrivateDevice) (k : ℕ) where
+  pub memories-kept : k < length devices → (before after all : List ℕ) → after ≡ before ++ text_of (memory_said k (device_at devices k).memory) → before ++ text_of (memories_said k (drop k devices)) ≡ all → after ++ text_of (memories_said (k + 1) (drop (k + 1) devices)) ≡ all
+  memories-kept there before after all said kept =
+      let rest = memories_said (k + 1) (drop (k + 1) devices) in
+      let step = at_drop_more (memories_said k) devices k (new_device 0 0 no_ranges) there in
+      said_more before after (memory_said k (device_at devices k).memory) rest said ∙ ap (λ lines. before ++ text_of lines) (sym step) ∙ kept
+
+  pub memories-done : length devices ≤ k → (before all : List ℕ) → before ++ text_of (memories_said k (drop k devices)) ≡ all → before ≡ all
+  memories-done past before all kept =
+      let none : drop k devices ≡ [] = drop_all k devices past in
       said_none before ∙ sym (ap (λ m. before ++ text_of (memories_said k m)) none) ∙ kept

@@ -1,5 +1,5 @@
 -- What of a text was told, and what of that was written.
-use Rattle.std.proofs.Common.{◌≡◌, ℕ, ◌+◌, ◌<◌, ◌≤◌, List, [], ◌∷◌, ◌++◌, Option, length, take, drop, ap, sym, ◌∙◌, arith, subst, ⊎_elim, append-nil}
+use Rattle.std.proofs.Common.{◌≡◌, ℕ, ◌+◌, ◌<◌, ◌≤◌, List, [], ◌∷◌, ◌++◌, Option, Result, Ok, Err, OnOk, length, take, drop, ap, sym, ◌∙◌, arith, subst, ⊎_elim, append-nil}
 use Rattle.std.specs.Io.KnownBytes.{Appends}
 use Rattle.std.proofs.KnownBytes.{Appends-nil, Appends-trans}
 use Rattle.std.proofs.lemmas.Bool.{cases_lt}
@@ -11,7 +11,7 @@ use Rattle.gv_lines.proofs.Passing.{PassesOn-more, PassesOn-none, PassesOn-trans
 use Rattle.gv_text.specs.Report.{text_of}
 use Rattle.gv_text.specs.declared.report_line.ReportLine.{ReportLine}
 use Rattle.gv_run.specs.Streamed.{WritesFront}
-use Rattle.gv_run.proofs.Text.{said_more}
+use Rattle.gv_machine.proofs.Text.{said_more}
 
 pub front-none : (text : List ℕ) (a : Option (List ℕ)) → WritesFront text a a
 front-none text a = (0, Appends-nil a)
@@ -97,3 +97,8 @@ module _ (before : List ℕ) (all : List ReportLine) (last : ReportLine) (held :
   pub last-front : WritesFront (before ++ text_of all) a b
   last-front = subst (λ lines. WritesFront (before ++ text_of lines) a b) tells.whole
       (front-said before tells.front (last ∷ []) a b (passes-part (before ++ text_of tells.front) held a b tells.passed))
+
+-- a fact of an Ok that follows from another
+pub ok_then : {T E : Type 0} {P Q : Type 0} (r : Result T E) → (P → Q) → OnOk r P → OnOk r Q
+ok_then (Ok x) f h = f h
+ok_then (Err e) f h = tt

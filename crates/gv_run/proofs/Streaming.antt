@@ -1,5 +1,5 @@
 -- A script that is run while it is read: what was handed out and said so far, and what is left.
-use Rattle.std.proofs.Common.{◌≡◌, ℕ, ◌+◌, ◌-◌, ◌<◌, ◌≤◌, true, false, List, [], ◌∷◌, ◌++◌, Option, None, Some, IfSome, length, refl, ap, sym, ◌∙◌, arith, subst, append_assoc, append-nil, length-append}
+use Rattle.std.proofs.Common.{◌≡◌, ℕ, ◌+◌, ◌-◌, ◌<◌, ◌≤◌, true, false, List, [], ◌∷◌, ◌++◌, Option, None, Some, IfSome, length, map, refl, ap, sym, ◌∙◌, arith, subst, append_assoc, append-nil, length-append}
 use Rattle.std.specs.Io.KnownBytes.{Appends, Consumes}
 use Rattle.std.proofs.KnownBytes.{Consumes-nil}
 use Rattle.gv_outside.proofs.Pieces.{Consumes-front}
@@ -10,24 +10,27 @@ use Rattle.gv_text.specs.declared.ending.Ending.TheVariants.{Done, BadScript, To
 use Rattle.gv_text.specs.declared.known.Known.{Known}
 use Rattle.gv_text.specs.declared.script_line.Line.{Line}
 use Rattle.gv_gpu.specs.Change.{Ran, RanPart}
-use Rattle.gv_gpu.specs.Device.{Device, JournalEntry}
+use Rattle.gv_gpu.specs.Device.{Device}
 use Rattle.gv_lines.specs.Reader.{ReaderState, HandsOut, Relates, TellsNext, coming, new_reader, has_line_feed}
 use Rattle.gv_lines.specs.Writer.{PassesOn}
 use Rattle.gv_lines.specs.declared.next.Next.{Next}
 use Rattle.gv_lines.specs.declared.next.Next.TheVariants as nexts
 use Rattle.gv_lines.proofs.Passing.{PassesOn-none, PassesOn-more, PassesOn-trans}
 use Rattle.gv_lines.proofs.Handing.{HandsOut-trans}
-use Rattle.gv_vgpu.specs.declared.vgpu.Vgpu.{Vgpu}
+use Rattle.gv_private.specs.Turn.{JournalEntry as PrivateEntry}
+use Rattle.gv_machine.specs.Machine.{Machine, new_machine, line_course, ran_all}
+use Rattle.gv_machine.specs.Report.{said_all, course_of, ending_said, report_of, commands_in}
+use Rattle.gv_machine.proofs.Left.{left_of, left-refused, left-ended, left-line}
+use Rattle.gv_machine.proofs.Scripts.{report_of-script, commands_in-script}
+use Rattle.gv_machine.proofs.Text.{said_none}
+use Rattle.gv_mdev.specs.Changes.{entry_of}
 use Rattle.gv_run.specs.Headline.{TakesAtMost}
-use Rattle.gv_run.specs.Machine.{Machine, line_course, ran_all}
-use Rattle.gv_run.specs.Report.{said_all, course_of, ending_said, report_of, commands_in}
 use Rattle.gv_run.specs.Streamed.{WritesFront, StopsAtFault, Begun, RunsLines, ending_at, is_last, report_so_far, ending_so_far}
-use Rattle.gv_run.specs.Tied.{first_owner, machine_in}
+use Rattle.gv_run.specs.Tied.{entries_in, machine_in}
+use Rattle.gv_run.specs.declared.stage.Stage.{Stage}
 use Rattle.gv_run.proofs.Ahead.{script_ahead, all_ahead, relates-some, ahead-ends, ahead-line, ahead-nothing, lines_of-line}
-use Rattle.gv_run.proofs.Left.{LeftOf, left_of, whole_left, left_refused, left_ended, left_line, line-done, line-began, left-part}
-use Rattle.gv_run.proofs.Limit.{report_of-script, commands_in-script}
+use Rattle.gv_run.proofs.Left.{GoesOf, goes-whole, goes-part, script-goes, script-still, line-went, line-stops}
 use Rattle.gv_run.proofs.Saying.{front-longer, front-said, passes-part, passes-all}
-use Rattle.gv_run.proofs.Text.{said_none}
 
 -- Of a source's bytes these were handed out, as whole lines, and run: what they said is held or written, and
 -- the script that is left is that of what is still to come. For the bytes alone, whatever came behind them,
@@ -37,8 +40,8 @@ pub record SoFar (bytes gone : List ℕ) (start : Device) (old : Option (List �
   pub there : source ≡ Some rest
   pub said : List ℕ
   pub passed : PassesOn said held old now
-  pub left : LeftOf [] [] start (script_of bytes) m said d (script_ahead known n (coming reader rest))
-  pub going : (more : List ℕ) → LeftOf [] [] start (script_in false (gone ++ more)) m said d (left_of false known n more)
+  pub left : GoesOf new_machine [] start (script_of bytes) m said d (script_ahead known n (coming reader rest))
+  pub going : (more : List ℕ) → GoesOf new_machine [] start (script_in false (gone ++ more)) m said d (left_of false known n more)
 
 -- The same for a source that tells its bytes, and how many of them were taken for any.
 pub record Reading (start : Device) (old first : Option (List ℕ)) (reader : ReaderState) (source : Option (List ℕ)) (known : Known) (n : ℕ) (m : Machine) (held : List ℕ) (d : Device) (now : Option (List ℕ)) : Type 0 where
@@ -53,40 +56,40 @@ if_some (Some x) f h = f x refl h
 
 -- ---- what was said of a script
 
-module _ (start : Device) (all : Script) (m : Machine) (said : List ℕ) (d : Device) (left : Script) (kept : LeftOf [] [] start all m said d left) (held : List ℕ) (a b : Option (List ℕ)) (passed : PassesOn said held a b) where
+module _ (start : Device) (all : Script) (m : Machine) (said : List ℕ) (d : Device) (left : Script) (kept : GoesOf new_machine [] start all m said d left) (held : List ℕ) (a b : Option (List ℕ)) (passed : PassesOn said held a b) where
   -- a front of what is said in all
-  said-front : WritesFront (text_of (said_all (course_of [] all).came)) a b
-  said-front = subst (λ l. WritesFront l a b) kept.course.report
+  said-front : WritesFront (text_of (said_all (course_of new_machine all).came)) a b
+  said-front = subst (λ l. WritesFront l a b) kept.left.course.report
       (front-longer said (text_of (said_all (course_of m left).came)) a b (passes-part said held a b passed))
 
   -- nothing is left
   module _ (ending : Ending) (is : left ≡ ends ending) where
     same-ending : ending ≡ all.ending
-    same-ending = sym (ap (λ (s : Script). s.ending) is) ∙ kept.ending
+    same-ending = sym (ap (λ (s : Script). s.ending) is) ∙ kept.left.ending
 
-    said-all : said ≡ text_of (said_all (course_of [] all).came)
-    said-all = said_none said ∙ sym (ap (λ (s : Script). said ++ text_of (said_all (course_of m s).came)) is) ∙ kept.course.report
+    said-all : said ≡ text_of (said_all (course_of new_machine all).came)
+    said-all = said_none said ∙ sym (ap (λ (s : Script). said ++ text_of (said_all (course_of m s).came)) is) ∙ kept.left.course.report
 
-    ran-whole : kept.course.ran.done ≡ ran_all (course_of [] all).came
-    ran-whole = sym (append-nil kept.course.ran.done) ∙ sym (ap (λ (s : Script). kept.course.ran.done ++ ran_all (course_of m s).came) is) ∙ kept.course.ran.front
+    all-ran : kept.ran ≡ ran_all (course_of new_machine all).came
+    all-ran = sym (append-nil kept.ran) ∙ sym (ap (λ (s : Script). kept.ran ++ ran_all (course_of m s).came) is) ∙ kept.left.course.journal
 
-    pub runs-lines : (guests : List Vgpu) → m ≡ machine_in d first_owner guests → RunsLines all ending start d guests held a b
-    runs-lines guests own = record {
+    pub runs-lines : (stage : Stage) → m ≡ machine_in d stage → RunsLines all ending start d stage held a b
+    runs-lines stage own = record {
       ending = same-ending;
-      machine = sym own ∙ sym (ap (λ (s : Script). (course_of m s).left) is) ∙ kept.course.machine;
+      machine = sym own ∙ sym (ap (λ (s : Script). (course_of m s).left) is) ∙ kept.left.course.machine;
       report = subst (λ l. PassesOn l held a b) said-all passed;
-      ran = subst (Ran start d) ran-whole kept.course.ran.ran;
+      ran = subst (λ (l : List PrivateEntry). Ran start d (map entry_of l)) all-ran kept.done;
     }
 
 -- a front of a report, from a front of what its lines said
-report-front : (bytes : List ℕ) (a b : Option (List ℕ)) → WritesFront (text_of (said_all (course_of [] (script_of bytes)).came)) a b → WritesFront (report_of bytes) a b
+report-front : (bytes : List ℕ) (a b : Option (List ℕ)) → WritesFront (text_of (said_all (course_of new_machine (script_of bytes)).came)) a b → WritesFront (report_of bytes) a b
 report-front bytes a b front =
-    let c = course_of [] (script_of bytes) in
+    let c = course_of new_machine (script_of bytes) in
     subst (λ l. WritesFront l a b) (sym (report_of-script bytes (script_of bytes) refl))
     (front-said [] (said_all c.came) (ending_said (script_of bytes).ending c.left) a b front)
 
-part-of : (bytes : List ℕ) (start d : Device) → RanPart start d (ran_all (course_of [] (script_of bytes)).came) → RanPart start d (commands_in bytes)
-part-of bytes start d part = subst (λ (ran : List JournalEntry). RanPart start d ran) (sym (commands_in-script bytes (script_of bytes) refl)) part
+part-of : (bytes : List ℕ) (start d : Device) → RanPart start d (entries_in (course_of new_machine (script_of bytes)).came) → RanPart start d (map entry_of (commands_in bytes))
+part-of bytes start d part = subst (λ (ran : List PrivateEntry). RanPart start d (map entry_of ran)) (sym (commands_in-script bytes (script_of bytes) refl)) part
 
 -- ---- where reading has come
 
@@ -94,7 +97,18 @@ module _ {bytes gone : List ℕ} {start : Device} {old : Option (List ℕ)} {s :
   pub begun : Begun bytes start d old now
   begun = record {
     written = report-front bytes old now (said-front start (script_of bytes) m kept.said d _ kept.left held old now kept.passed);
-    ran = part-of bytes start d (left-part (course_of [] (script_of bytes)) [] start _ kept.said d kept.left.course);
+    ran = part-of bytes start d (goes-part (course_of new_machine (script_of bytes)) [] start _ kept.said d (script-goes new_machine m [] kept.said start d (script_of bytes) _ kept.left));
+  }
+
+  -- the device goes on, and nothing runs
+  pub so_far-still : (e : Device) → Ran d e [] → SoFar bytes gone start old s source known n m held e now
+  so_far-still e none = record {
+    rest = kept.rest;
+    there = kept.there;
+    said = kept.said;
+    passed = kept.passed;
+    left = script-still new_machine m [] kept.said start d (script_of bytes) _ kept.left e none;
+    going = λ more. script-still new_machine m [] kept.said start d (script_in false (gone ++ more)) _ (kept.going more) e none;
   }
 
   -- more of what is held is written
@@ -114,36 +128,36 @@ module _ {bytes gone : List ℕ} {start : Device} {old : Option (List ℕ)} {s :
     told = relates-some (λ before after. TellsNext next before t.line after) s t source later kept.rest kept.there tells
 
     -- no line: the script ends
-    pub so_far-ends : (ending : Ending) → ending_at next n ≡ Some ending → (guests : List Vgpu) → m ≡ machine_in d first_owner guests → RunsLines (script_of bytes) ending start d guests held old now
-    so_far-ends ending is guests own = runs-lines start (script_of bytes) m kept.said d _ kept.left held old now kept.passed ending
-        (ahead-ends known n t.line next (coming s kept.rest) (coming t told.0) ending is told.2) guests own
+    pub so_far-ends : (ending : Ending) → ending_at next n ≡ Some ending → (stage : Stage) → m ≡ machine_in d stage → RunsLines (script_of bytes) ending start d stage held old now
+    so_far-ends ending is stage own = runs-lines start (script_of bytes) m kept.said d _ kept.left held old now kept.passed ending
+        (ahead-ends known n t.line next (coming s kept.rest) (coming t told.0) ending is told.2) stage own
 
     module _ (going : ending_at next n ≡ None) where
       ahead : script_ahead known n (coming s kept.rest) ≡ script_on known n (accepted known t.line) (λ known. script_ahead known (n + 1) (coming t told.0))
       ahead = ahead-line known n t.line next (coming s kept.rest) (coming t told.0) going told.2
 
-      pub so_far-refused : accepted known t.line ≡ None → (guests : List Vgpu) → m ≡ machine_in d first_owner guests → RunsLines (script_of bytes) (BadScript n) start d guests held old now
-      so_far-refused is guests own = runs-lines start (script_of bytes) m kept.said d _ kept.left held old now kept.passed (BadScript n)
-          (left_refused known n t.line (λ known. script_ahead known (n + 1) (coming t told.0)) _ ahead is) guests own
+      pub so_far-refused : accepted known t.line ≡ None → (stage : Stage) → m ≡ machine_in d stage → RunsLines (script_of bytes) (BadScript n) start d stage held old now
+      so_far-refused is stage own = runs-lines start (script_of bytes) m kept.said d _ kept.left held old now kept.passed (BadScript n)
+          (left-refused known n t.line (λ known. script_ahead known (n + 1) (coming t told.0)) _ ahead is) stage own
 
       module _ (line : Line) (is : accepted known t.line ≡ Some line) where
-        pub so_far-ended : is_end line ≡ true → (guests : List Vgpu) → m ≡ machine_in d first_owner guests → RunsLines (script_of bytes) Done start d guests held old now
-        so_far-ended last guests own = runs-lines start (script_of bytes) m kept.said d _ kept.left held old now kept.passed Done
-            (left_ended known n t.line (λ known. script_ahead known (n + 1) (coming t told.0)) _ ahead line is last) guests own
+        pub so_far-ended : is_end line ≡ true → (stage : Stage) → m ≡ machine_in d stage → RunsLines (script_of bytes) Done start d stage held old now
+        so_far-ended last stage own = runs-lines start (script_of bytes) m kept.said d _ kept.left held old now kept.passed Done
+            (left-ended known n t.line (λ known. script_ahead known (n + 1) (coming t told.0)) _ ahead line is last) stage own
 
         module _ (last : is_end line ≡ false) where
           line_first : script_ahead known n (coming s kept.rest) ≡ onto_script line (script_ahead (known_after known line) (n + 1) (coming t told.0))
-          line_first = left_line known n t.line (λ known. script_ahead known (n + 1) (coming t told.0)) _ ahead line is last
+          line_first = left-line known n t.line (λ known. script_ahead known (n + 1) (coming t told.0)) _ ahead line is last
 
           -- the line was begun
-          pub so_far-began : (e : Device) → RanPart d e (ran_all (line_course m line).came) → Begun bytes start e old now
+          pub so_far-began : (e : Device) → RanPart d e (entries_in (line_course m line).came) → Begun bytes start e old now
           so_far-began e part = record {
             written = report-front bytes old now (said-front start (script_of bytes) m kept.said d _ kept.left held old now kept.passed);
-            ran = part-of bytes start e (line-began [] m [] kept.said start d (script_of bytes) _ kept.left line _ line_first e part);
+            ran = part-of bytes start e (line-stops new_machine m [] kept.said start d (script_of bytes) _ kept.left line _ line_first e part);
           }
 
           -- the line was run
-          module _ (after : Machine) (told_now : List ℕ) (e : Device) (moved : after ≡ (line_course m line).left) (saying : told_now ≡ held ++ text_of (said_all (line_course m line).came)) (ran : Ran d e (ran_all (line_course m line).came)) where
+          module _ (after : Machine) (told_now : List ℕ) (e : Device) (moved : after ≡ (line_course m line).left) (saying : told_now ≡ held ++ text_of (said_all (line_course m line).came)) (ran : Ran d e (entries_in (line_course m line).came)) where
             abbrev words : List ℕ
             words = text_of (said_all (line_course m line).came)
 
@@ -151,21 +165,21 @@ module _ {bytes gone : List ℕ} {start : Device} {old : Option (List ℕ)} {s :
             more_said = subst (λ l. PassesOn (kept.said ++ text_of (said_all (line_course m line).came)) l old now) (sym saying)
                 (PassesOn-more kept.said held (text_of (said_all (line_course m line).came)) old now kept.passed)
 
-            left_after : LeftOf [] [] start (script_of bytes) after (kept.said ++ words) e (script_ahead (known_after known line) (n + 1) (coming t told.0))
-            left_after = line-done [] m [] kept.said start d (script_of bytes) _ kept.left line _ line_first after (kept.said ++ text_of (said_all (line_course m line).came)) e moved refl ran
+            left_after : GoesOf new_machine [] start (script_of bytes) after (kept.said ++ words) e (script_ahead (known_after known line) (n + 1) (coming t told.0))
+            left_after = line-went new_machine m [] kept.said start d (script_of bytes) _ kept.left line _ line_first after (kept.said ++ text_of (said_all (line_course m line).came)) e moved refl ran
 
             -- behind the last line, which has no line feed, nothing comes
-            pub so_far-last : next ≡ nexts.LastLine → (later_held : List ℕ) (b : Option (List ℕ)) → PassesOn told_now later_held now b → (guests : List Vgpu) → after ≡ machine_in e first_owner guests → RunsLines (script_of bytes) (BadScript (n + 1)) start e guests later_held old b
-            so_far-last is_last later_held b passes guests own =
+            pub so_far-last : next ≡ nexts.LastLine → (later_held : List ℕ) (b : Option (List ℕ)) → PassesOn told_now later_held now b → (stage : Stage) → after ≡ machine_in e stage → RunsLines (script_of bytes) (BadScript (n + 1)) start e stage later_held old b
+            so_far-last is_last later_held b passes stage own =
                 let end = subst (λ x. TellsNext x (coming s kept.rest) t.line (coming t told.0)) is_last told.2 in
                 runs-lines start (script_of bytes) after (kept.said ++ words) e _ left_after later_held old b
                 (PassesOn-trans (kept.said ++ words) told_now later_held old now b more_said passes) (BadScript (n + 1))
-                (ahead-nothing (known_after known line) (n + 1) t.line (coming s kept.rest) (coming t told.0) end) guests own
+                (ahead-nothing (known_after known line) (n + 1) t.line (coming s kept.rest) (coming t told.0) end) stage own
 
             pub so_far-began_last : (later_held : List ℕ) (b : Option (List ℕ)) → PassesOn told_now later_held now b → Begun bytes start e old b
             so_far-began_last later_held b passes = record {
               written = report-front bytes old b (said-front start (script_of bytes) after (kept.said ++ words) e _ left_after later_held old b (PassesOn-trans (kept.said ++ words) told_now later_held old now b more_said passes));
-              ran = part-of bytes start e (left-part (course_of [] (script_of bytes)) [] start _ (kept.said ++ words) e left_after.course);
+              ran = part-of bytes start e (goes-part (course_of new_machine (script_of bytes)) [] start _ (kept.said ++ words) e (script-goes new_machine after [] (kept.said ++ words) start e (script_of bytes) _ left_after));
             }
 
             -- one more line was handed out
@@ -179,14 +193,14 @@ module _ {bytes gone : List ℕ} {start : Device} {old : Option (List ℕ)} {s :
               going = λ more. going_after more;
             }
               where
-                going_after : (more : List ℕ) → LeftOf [] [] start (script_in false ((gone ++ (t.line ++ 10 ∷ [])) ++ more)) after (kept.said ++ words) e (left_of false (known_after known line) (n + 1) more)
+                going_after : (more : List ℕ) → GoesOf new_machine [] start (script_in false ((gone ++ (t.line ++ 10 ∷ [])) ++ more)) after (kept.said ++ words) e (left_of false (known_after known line) (n + 1) more)
                 going_after more =
                     let whole : gone ++ (t.line ++ 10 ∷ more) ≡ (gone ++ (t.line ++ 10 ∷ [])) ++ more =
                     sym (append_assoc gone (t.line ++ 10 ∷ []) more ∙ ap (λ l. gone ++ l) (append_assoc t.line (10 ∷ []) more)) in
                     let on : left_of false known n (t.line ++ 10 ∷ more) ≡ script_on known n (accepted known t.line) (λ known. left_of false known (n + 1) more) = ap (script_from false known n) (lines_of-line is_too_long t.line more plain) in
-                    let first = left_line known n t.line (λ known. left_of false known (n + 1) more) _ on line is last in
-                    subst (λ l. LeftOf [] [] start (script_in false l) after (kept.said ++ text_of (said_all (line_course m line).came)) e (left_of false (known_after known line) (n + 1) more)) whole
-                    (line-done [] m [] kept.said start d (script_in false (gone ++ (t.line ++ 10 ∷ more))) _ (kept.going (t.line ++ 10 ∷ more)) line _ first after (kept.said ++ text_of (said_all (line_course m line).came)) e moved refl ran)
+                    let first = left-line known n t.line (λ known. left_of false known (n + 1) more) _ on line is last in
+                    subst (λ l. GoesOf new_machine [] start (script_in false l) after (kept.said ++ text_of (said_all (line_course m line).came)) e (left_of false (known_after known line) (n + 1) more)) whole
+                    (line-went new_machine m [] kept.said start d (script_in false (gone ++ (t.line ++ 10 ∷ more))) _ (kept.going (t.line ++ 10 ∷ more)) line _ first after (kept.said ++ text_of (said_all (line_course m line).came)) e moved refl ran)
 
   -- The source fails where no line is held: the script of the bytes that were taken goes on, and all that
   -- its lines say was said.
@@ -205,40 +219,47 @@ module _ {bytes gone : List ℕ} {start : Device} {old : Option (List ℕ)} {s :
           taken = taken;
           source = consumes;
           going = ap (λ l. (script_in false l).ending) is ∙ sym (same-ending start all m kept.said d _ left held old now kept.passed TooLong open_script);
-          report = subst (Appends old b) (said ∙ ap (λ l. text_of (said_all (course_of [] (script_in false l)).came)) (sym is)) written;
+          report = subst (Appends old b) (said ∙ ap (λ l. text_of (said_all (course_of new_machine (script_in false l)).came)) (sym is)) written;
         }
 
 -- ---- a source that tells its bytes, or none
 
 -- before the first line
-so_far-start : (bytes : List ℕ) (start : Device) (old : Option (List ℕ)) → SoFar bytes [] start old (new_reader script_limit) (Some bytes) nothing_known 1 [] [] start old
+so_far-start : (bytes : List ℕ) (start : Device) (old : Option (List ℕ)) → SoFar bytes [] start old (new_reader script_limit) (Some bytes) nothing_known 1 new_machine [] start old
 so_far-start bytes start old = record {
   rest = bytes;
   there = refl;
   said = [];
   passed = PassesOn-none [] old;
-  left = subst (λ (s : Script). LeftOf [] [] start (script_of bytes) [] [] start s) (all_ahead bytes) (whole_left [] [] start (script_of bytes));
-  going = λ more. whole_left [] [] start (script_in false more);
+  left = subst (λ (s : Script). GoesOf new_machine [] start (script_of bytes) new_machine [] start s) (all_ahead bytes) (goes-whole new_machine [] start (script_of bytes));
+  going = λ more. goes-whole new_machine [] start (script_in false more);
 }
 
 hands-none : (s : ReaderState) (a : Option (List ℕ)) → HandsOut s s a a []
 hands-none s a = record { piece = []; source = Consumes-nil a; bytes = append-nil s.held; taken = omega arith; limit = refl }
 
-reading-new : (start : Device) (old first : Option (List ℕ)) → Reading start old first (new_reader script_limit) first nothing_known 1 [] [] start old
+reading-new : (start : Device) (old first : Option (List ℕ)) → Reading start old first (new_reader script_limit) first nothing_known 1 new_machine [] start old
 reading-new start old None = record { gone = []; hands = hands-none (new_reader script_limit) None; so_far = tt }
 reading-new start old (Some bytes) = record { gone = []; hands = hands-none (new_reader script_limit) (Some bytes); so_far = so_far-start bytes start old }
 
-pub reading-start : (start : Device) (old first : Option (List ℕ)) (s : ReaderState) (known : Known) (m : Machine) (held : List ℕ) → s ≡ new_reader script_limit → known ≡ nothing_known → m ≡ [] → held ≡ [] → Reading start old first s first known 1 m held start old
+pub reading-start : (start : Device) (old first : Option (List ℕ)) (s : ReaderState) (known : Known) (m : Machine) (held : List ℕ) → s ≡ new_reader script_limit → known ≡ nothing_known → m ≡ new_machine → held ≡ [] → Reading start old first s first known 1 m held start old
 reading-start start old first s known m held new nothing none empty =
     subst (λ (s : ReaderState). Reading start old first s first known 1 m held start old) (sym new)
     (subst (λ (known : Known). Reading start old first (new_reader script_limit) first known 1 m held start old) (sym nothing)
     (subst (λ (m : Machine). Reading start old first (new_reader script_limit) first nothing_known 1 m held start old) (sym none)
-    (subst (λ (held : List ℕ). Reading start old first (new_reader script_limit) first nothing_known 1 [] held start old) (sym empty)
+    (subst (λ (held : List ℕ). Reading start old first (new_reader script_limit) first nothing_known 1 new_machine held start old) (sym empty)
     (reading-new start old first))))
 
 module _ {start : Device} {old first : Option (List ℕ)} {s : ReaderState} {source : Option (List ℕ)} {known : Known} {n : ℕ} {m : Machine} {held : List ℕ} {d : Device} {now : Option (List ℕ)} (kept : Reading start old first s source known n m held d now) where
   pub reading-begun : IfSome first (λ bytes. Begun bytes start d old now)
   reading-begun = if_some first (λ bytes is so. begun so) kept.so_far
+
+  pub reading-still : (e : Device) → Ran d e [] → Reading start old first s source known n m held e now
+  reading-still e none = record { gone = kept.gone; hands = kept.hands; so_far = if_some first (λ bytes is so. so_far-still so e none) kept.so_far }
+
+  -- the same text is held
+  pub reading-held : (later : List ℕ) → later ≡ held → Reading start old first s source known n m later d now
+  reading-held later is = subst (λ (h : List ℕ). Reading start old first s source known n m h d now) (sym is) kept
 
   pub reading-passed : (later : List ℕ) (b : Option (List ℕ)) → PassesOn held later now b → Reading start old first s source known n m later d b
   reading-passed later b passes = record { gone = kept.gone; hands = kept.hands; so_far = if_some first (λ bytes is so. passed-on so later b passes) kept.so_far }
@@ -261,24 +282,24 @@ module _ {start : Device} {old first : Option (List ℕ)} {s : ReaderState} {sou
       if_some first (λ bytes told so. so_far-fault so t none first later b all.piece all.source is now_held empty passes) kept.so_far
 
   module _ (t : ReaderState) (later : Option (List ℕ)) (next : Next) (tells : Relates (λ before after. TellsNext next before t.line after) s source t later) where
-    pub reading-ends : (ending : Ending) → ending_at next n ≡ Some ending → (guests : List Vgpu) → m ≡ machine_in d first_owner guests → IfSome first (λ bytes. RunsLines (script_of bytes) ending start d guests held old now)
-    reading-ends ending is guests own = if_some first (λ bytes told so. so_far-ends so t later next tells ending is guests own) kept.so_far
+    pub reading-ends : (ending : Ending) → ending_at next n ≡ Some ending → (stage : Stage) → m ≡ machine_in d stage → IfSome first (λ bytes. RunsLines (script_of bytes) ending start d stage held old now)
+    reading-ends ending is stage own = if_some first (λ bytes told so. so_far-ends so t later next tells ending is stage own) kept.so_far
 
     module _ (going : ending_at next n ≡ None) where
-      pub reading-refused : accepted known t.line ≡ None → (guests : List Vgpu) → m ≡ machine_in d first_owner guests → IfSome first (λ bytes. RunsLines (script_of bytes) (BadScript n) start d guests held old now)
-      reading-refused is guests own = if_some first (λ bytes told so. so_far-refused so t later next tells going is guests own) kept.so_far
+      pub reading-refused : accepted known t.line ≡ None → (stage : Stage) → m ≡ machine_in d stage → IfSome first (λ bytes. RunsLines (script_of bytes) (BadScript n) start d stage held old now)
+      reading-refused is stage own = if_some first (λ bytes told so. so_far-refused so t later next tells going is stage own) kept.so_far
 
       module _ (line : Line) (is : accepted known t.line ≡ Some line) where
-        pub reading-ended : is_end line ≡ true → (guests : List Vgpu) → m ≡ machine_in d first_owner guests → IfSome first (λ bytes. RunsLines (script_of bytes) Done start d guests held old now)
-        reading-ended last guests own = if_some first (λ bytes told so. so_far-ended so t later next tells going line is last guests own) kept.so_far
+        pub reading-ended : is_end line ≡ true → (stage : Stage) → m ≡ machine_in d stage → IfSome first (λ bytes. RunsLines (script_of bytes) Done start d stage held old now)
+        reading-ended last stage own = if_some first (λ bytes told so. so_far-ended so t later next tells going line is last stage own) kept.so_far
 
         module _ (last : is_end line ≡ false) where
-          pub reading-began : (e : Device) → RanPart d e (ran_all (line_course m line).came) → IfSome first (λ bytes. Begun bytes start e old now)
+          pub reading-began : (e : Device) → RanPart d e (entries_in (line_course m line).came) → IfSome first (λ bytes. Begun bytes start e old now)
           reading-began e part = if_some first (λ bytes told so. so_far-began so t later next tells going line is last e part) kept.so_far
 
-          module _ (after : Machine) (told_now : List ℕ) (e : Device) (moved : after ≡ (line_course m line).left) (saying : told_now ≡ held ++ text_of (said_all (line_course m line).came)) (ran : Ran d e (ran_all (line_course m line).came)) where
-            pub reading-last : next ≡ nexts.LastLine → (later_held : List ℕ) (b : Option (List ℕ)) → PassesOn told_now later_held now b → (guests : List Vgpu) → after ≡ machine_in e first_owner guests → IfSome first (λ bytes. RunsLines (script_of bytes) (BadScript (n + 1)) start e guests later_held old b)
-            reading-last is_last later_held b passes guests own = if_some first (λ bytes x so. so_far-last so t later next tells going line is last after told_now e moved saying ran is_last later_held b passes guests own) kept.so_far
+          module _ (after : Machine) (told_now : List ℕ) (e : Device) (moved : after ≡ (line_course m line).left) (saying : told_now ≡ held ++ text_of (said_all (line_course m line).came)) (ran : Ran d e (entries_in (line_course m line).came)) where
+            pub reading-last : next ≡ nexts.LastLine → (later_held : List ℕ) (b : Option (List ℕ)) → PassesOn told_now later_held now b → (stage : Stage) → after ≡ machine_in e stage → IfSome first (λ bytes. RunsLines (script_of bytes) (BadScript (n + 1)) start e stage later_held old b)
+            reading-last is_last later_held b passes stage own = if_some first (λ bytes x so. so_far-last so t later next tells going line is last after told_now e moved saying ran is_last later_held b passes stage own) kept.so_far
 
             pub reading-began_last : (later_held : List ℕ) (b : Option (List ℕ)) → PassesOn told_now later_held now b → IfSome first (λ bytes. Begun bytes start e old b)
             reading-began_last later_held b passes = if_some first (λ bytes x so. so_far-began_last so t later next tells going line is last after told_now e moved saying ran later_held b passes) kept.so_far

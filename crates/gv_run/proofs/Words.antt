@@ -11,8 +11,8 @@ use Rattle.gv_guest.specs.Placed.{Placed, Hosts, memory_in}
 use Rattle.gv_text.specs.Report.{text_of}
 use Rattle.gv_text.specs.declared.report_line.ReportLine.{ReportLine}
 use Rattle.gv_text.specs.declared.report_line.ReportLine.TheVariants.{Memory as Told}
-use Rattle.gv_run.specs.Report.{words_said}
-use Rattle.gv_run.proofs.Text.{said_more, said_none}
+use Rattle.gv_machine.specs.Report.{words_said}
+use Rattle.gv_machine.proofs.Text.{said_more, said_none}
 
 -- each frame has 512 words
 abbrev pub IsWhole : Memory → Type 0

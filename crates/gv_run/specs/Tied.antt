@@ -1,78 +1,112 @@
 -- How the machine stands in the shared device.
-use Rattle.std.specs.Prelude.{◌≡◌, ◌≢◌, ℕ, ◌++◌, ◌<◌, ◌≤◌, ◌==◌, ◌&&◌, nat_lt, List, Bool, true, false, Some, All, length, map, slice_index_or}
-use Rattle.gv_types.specs.declared.event.Event.{Event}
-use Rattle.gv_types.specs.declared.event.Event.TheVariants.{Reset}
-use Rattle.gv_types.specs.declared.ranges.Ranges.{Ranges}
-use Rattle.gv_entry.specs.Ranges.{owns_page}
-use Rattle.gv_balloon.specs.Shares.{AreAmong, AreApart}
+use Rattle.std.specs.Prelude.{◌≡◌, ℕ, ◌-◌, ◌<◌, ◌≤◌, ◌++◌, [], ◌∷◌, List, Bool, true, false, ◌==◌, All, length, map, slice_index}
+use Rattle.std.specs.List.{sum_by}
 use Rattle.gv_gpu.specs.Change.{Ran}
-use Rattle.gv_gpu.specs.Device.{Device}
-use Rattle.gv_types.specs.declared.ids.Label.{Label}
-use Rattle.gv_gpu.specs.Part.{AreDisjoint}
-use Rattle.gv_guest.specs.Placed.{Hosts, memory_in}
-use Rattle.gv_sggtt.specs.Mirror.{IsAbsent}
+use Rattle.gv_gpu.specs.Device.{Device, JournalEntry, IsEmpty}
+use Rattle.gv_machine.specs.Course.{Course}
+use Rattle.gv_machine.specs.Machine.{Machine, Done, device_at, ran_all}
+use Rattle.gv_machine.specs.Report.{said_all}
+use Rattle.gv_mdev.specs.Changes.{entry_of}
+use Rattle.gv_mediator.specs.First.{first_machine}
+use Rattle.gv_mediator.specs.Tied.{Tied, machine_of}
+use Rattle.gv_mediator.specs.declared.guest.Guest.{Guest}
+use Rattle.gv_mediator.specs.declared.mediator.Mediator.{Mediator}
 use Rattle.gv_text.specs.Report.{text_of}
+use Rattle.gv_text.specs.Script.{want_of}
 use Rattle.gv_text.specs.declared.known.Known.{Known}
-use Rattle.gv_vgpu.specs.Access.{IsAccess}
-use Rattle.gv_vgpu.specs.Holds.{Holds, AreIdle, private_of, number_of, ranges_of}
-use Rattle.gv_vgpu.specs.declared.vgpu.Vgpu.{Vgpu}
-use Rattle.gv_run.specs.Course.{Course}
-use Rattle.gv_run.specs.Machine.{Machine, Done, device_at, given_to, no_ranges, ran_all}
-use Rattle.gv_run.specs.Report.{said_all}
-use Rattle.gv_run.specs.declared.run.Run.{Run}
+use Rattle.gv_text.specs.declared.script_line.Guest.{Guest as GuestForm}
+use Rattle.gv_run.specs.declared.stage.Stage.{Stage}
+use Rattle.gv_run.specs.declared.stage.Stage.TheVariants.{Gathering, Running}
 
--- no page of the global table is in the ranges of two guests
-abbrev pub AreAllApart : List Ranges → Type 0
-AreAllApart all = (g k : ℕ) → g ≢ k → g < length all → k < length all → AreApart (slice_index_or all g no_ranges) (slice_index_or all k no_ranges)
+-- Each device has its guest's number, and each engine's owner is a guest that is there, or 0 where none is.
+pub record IsWhole (m : Machine) : Type 0 where
+  pub numbers : (g : ℕ) → g < length m.devices → (device_at m.devices g).number ≡ g
+  pub owners : (engine : ℕ) → m.owners engine ≤ length m.devices - 1
 
-abbrev pub all_ranges : List Vgpu → List Ranges
-all_ranges guests = map ranges_of guests
+-- The guests' devices stand in the shared device, and take events.
+pub record Stands (d : Device) (m : Mediator) : Type 0 where
+  pub tied : Tied d m
+  pub running : m.stopped ≡ false
+  pub whole : IsWhole (machine_of d m)
+  pub eight : length (machine_of d m).devices ≤ 8
 
--- Who owns which engine, until engines are switched: guest 0 owns all four.
-abbrev pub first_owner : ℕ → ℕ → Bool
-first_owner guest engine = nat_lt engine 4 && (guest == 0)
+-- ---- a script that runs
 
--- Each guest's device holds, with ranges of its own and the engines that it owns, which no other guest owns.
-pub record Ties (d : Device) (own : ℕ → ℕ → Bool) (guests : List Vgpu) : Type 0 where
-  pub number : (g : ℕ) (v : Vgpu) → g < length guests → slice_index_or guests g v ≡ v → number_of v ≡ g
-  pub holds : (g : ℕ) (v : Vgpu) → g < length guests → slice_index_or guests g v ≡ v → Holds d v (own g)
-  pub apart : AreAllApart (all_ranges guests)
-  pub disjoint : (g k : ℕ) → g ≢ k → AreDisjoint (own g) (own k)
-  -- every engine is idle, since no guest has an element at work
-  pub idle : AreIdle d (λ _. true)
-  -- every other physical entry is absent, since no guest has a window
-  pub rest : (page : ℕ) → All (λ ranges. owns_page ranges page ≡ false) (all_ranges guests) → IsAbsent (d.global page)
-  -- every live page is a frame of one of these guests
-  pub pages : (n : ℕ) (l : Label) → d.label n ≡ Some l → (l.guest.0 < length guests) × (l.shadow ≡ false)
+-- the machine so far, before the devices are made and after
+abbrev pub machine_in : Device → Stage → Machine
+machine_in d (Gathering guests) = first_machine guests.items
+machine_in d (Running m) = machine_of d m
 
--- the machine that the guests' devices stand for
-abbrev pub machine_in : Device → (ℕ → ℕ → Bool) → List Vgpu → Machine
-machine_in d own guests = map (λ (v : Vgpu). private_of d v (own (number_of v))) guests
+abbrev pub is_running : Stage → Bool
+is_running (Gathering guests) = false
+is_running (Running m) = true
 
--- an event of a guest's: an access or a function reset
-abbrev pub IsGuestEvent : Event → Type 0
-IsGuestEvent (Reset guest) = Unit {0}
-IsGuestEvent event = IsAccess event
+-- the devices were made, and stand
+abbrev pub IsMade : Device → Stage → Type 0
+IsMade d (Gathering guests) = ⊥
+IsMade d (Running m) = Stands d m
 
--- The guests are those that are known, with the frames and the pages of the global table that are known;
--- nothing else is live.
-pub record Agrees (d : Device) (known : Known) (guests : List Vgpu) : Type 0 where
-  pub ties : Ties d first_owner guests
-  pub given : given_to (all_ranges guests) ≡ known.given
-  pub among : All (AreAmong known.given) (all_ranges guests)
+-- no guest came yet
+abbrev pub is_first : Stage → Bool
+is_first (Gathering guests) = length guests.items == 0
+is_first (Running m) = false
+
+-- A guest joined those that were gathered.
+abbrev pub Joins : Stage → GuestForm → Stage → Type 0
+Joins (Gathering guests) guest (Gathering more) = more.items ≡ guests.items ++ record { frames = guest.frames; want = want_of guest } ∷ []
+Joins (Gathering guests) guest (Running m) = ⊥
+Joins (Running m) guest stage = Unit {0}
+
+abbrev pub low_pages : List Guest → ℕ
+low_pages guests = sum_by (λ (guest : Guest). guest.want.low) guests
+
+abbrev pub high_pages : List Guest → ℕ
+high_pages guests = sum_by (λ (guest : Guest). guest.want.high) guests
+
+-- No event came, and the device is empty. The guests so far have the frames and the pages that are known.
+pub record AreGathered (d : Device) (known : Known) (guests : List Guest) : Type 0 where
+  pub empty : IsEmpty d
+  pub early : known.begun ≡ false
+  pub some : All (λ (guest : Guest). 1 ≤ guest.frames) guests
+  pub frames : sum_by (λ (guest : Guest). guest.frames) guests ≡ known.frames
+  pub low : low_pages guests ≡ known.given.low
+  pub high : high_pages guests ≡ known.given.high
   pub count : length guests ≡ known.guests
-  pub live : d.live ≡ known.frames
   pub few : known.frames ≤ 16384
+  pub low_fits : known.given.low ≤ 65536
+  pub high_fits : known.given.high ≤ 966656
+
+-- An event came, and the devices stand.
+pub record AreMade (d : Device) (known : Known) (m : Mediator) : Type 0 where
+  pub tied : Tied d m
+  pub running : m.stopped ≡ false
+  pub begun : known.begun ≡ true
+
+abbrev pub IsAt : Device → Known → Stage → Type 0
+IsAt d known (Gathering guests) = AreGathered d known guests.items
+IsAt d known (Running m) = AreMade d known m
+
+-- The machine has the guests that are known, with the frames that are known.
+pub record HasKnown (m : Machine) (known : Known) : Type 0 where
+  pub whole : IsWhole m
+  pub count : length m.devices ≡ known.guests
+  pub sizes : (g : ℕ) → g < known.guests → length (device_at m.devices g).memory ≡ slice_index known.sizes g
+  pub room : length known.sizes ≡ 8
   pub eight : known.guests ≤ 8
 
--- The device has just the machine's memories: for each guest a page for each frame, with the frame's
--- words, and no other page that is labelled as a frame of the guest.
-abbrev pub Keeps : Device → Machine → Type 0
-Keeps d m = (g : ℕ) → g < length m → (pages : List ℕ) × Hosts d (record { guest = g; pages = pages }) × (memory_in d (record { guest = g; pages = pages }) ≡ (device_at m g).memory)
+pub record Agrees (d : Device) (known : Known) (stage : Stage) : Type 0 where
+  pub there : IsAt d known stage
+  pub guests : HasKnown (machine_in d stage) known
 
--- A course of the machine was run over the shared device: the guests stand for what it leaves, its lines stand at the
--- report's end, and its commands ran.
-pub record Plays (c : Course Machine Done) (before : Device) (old : Run) (after : Device) (new : Run) : Type 0 where
-  pub machine : machine_in after first_owner new.guests.items ≡ c.left
-  pub report : new.report ≡ old.report ++ text_of (said_all c.came)
-  pub ran : Ran before after (ran_all c.came)
+-- ---- a course that was run
+
+-- the commands that ran, as the shared device's journal has them
+abbrev pub entries_in : List Done → List JournalEntry
+entries_in came = map entry_of (ran_all came)
+
+-- A course was run over the shared device: the machine is what it leaves, its lines stand at the report's end, and its
+-- commands ran.
+pub record Plays (c : Course Machine Done) (before : Device) (told : List ℕ) (after : Device) (m : Machine) (now : List ℕ) : Type 0 where
+  pub machine : m ≡ c.left
+  pub report : now ≡ told ++ text_of (said_all c.came)
+  pub ran : Ran before after (entries_in c.came)

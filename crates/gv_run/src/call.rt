@@ -1,12 +1,13 @@
 ghost use Rattle.std.specs.Prelude.{◌≡◌, ◌≢◌, ℕ, ◌+◌, ◌^◌, ◌<◌, ◌≤◌, ◌⊎◌, length, IfSome, map, take, true, false};
 ghost use Rattle.std.specs.Io.KnownBytes.{Appends};
 ghost use Rattle.gv_outside.specs.Causes.{Rose};
-ghost use Rattle.gv_gpu.specs.Device.{IsEmpty};
-ghost use Rattle.gv_run.specs.Report.{report_of, ending_of, machine_of, commands_in};
+ghost use Rattle.gv_gpu.specs.Device.{IsEmpty, counted};
+ghost use Rattle.gv_machine.specs.Report.{report_of, ending_of, machine_of, commands_in};
+ghost use Rattle.gv_mdev.specs.Changes.{entry_of};
+ghost use Rattle.gv_mediator.specs.Laws.{HasMemories};
 ghost use Rattle.gv_text.specs.Script.{script_limit};
 ghost use Rattle.gv_run.specs.Headline.{NamesRun, status_of, status_of_stop, tells_ending, TakesAtMost, WritesPart, WritesPrivate, RanPartOf};
 ghost use Rattle.gv_run.specs.Streamed.{StopsAtFault};
-ghost use Rattle.gv_run.specs.Tied.{Keeps};
 
 use crate::script::run_script;
 use crate::stopped::Stopped;
@@ -75,6 +76,7 @@ fn status_of_stop(stopped: Stopped) -> Status
         Stopped::OutOfMemory => Status::OutOfMemory,
         Stopped::Read => Status::ReadFault,
         Stopped::Write => Status::WriteFault,
+        Stopped::Device => Status::DeviceFault,
     }
 }
 
@@ -104,10 +106,10 @@ pub fn mediate<S: Source, K: Sink, G: Gpu>(
     ensures taken { TakesAtMost (script_limit + 1) (S.left source.old) (S.left source.new) }
 
     // The device ran these devices' commands, touched no page of another guest, and has their memory.
-    ensures journal { tells_ending result ≡ true → IfSome (S.left source.old) (λ bytes. (G.state gpu.new).journal ≡ commands_in bytes) }
+    ensures journal { tells_ending result ≡ true → IfSome (S.left source.old) (λ bytes. (G.state gpu.new).journal ≡ map entry_of (commands_in bytes)) }
     ensures journal_part { IfSome (S.left source.old) (RanPartOf (G.state gpu.new)) }
     ensures strays { (G.state gpu.new).strays ≡ 0 }
-    ensures pages { result ≡ Status.Done → IfSome (S.left source.old) (λ bytes. Keeps (G.state gpu.new) (machine_of bytes)) }
+    ensures pages { result ≡ Status.Done → IfSome (S.left source.old) (λ bytes. HasMemories (G.state gpu.new) (machine_of bytes)) }
 
     // A line is run as soon as its line feed was taken, and what it says is written before a read fault is
     // answered: the report of exactly the lines whose line feed was taken, none of which ends the script.
@@ -120,9 +122,10 @@ pub fn mediate<S: Source, K: Sink, G: Gpu>(
     ensures unchanged { ¬ NamesRun (map (λ word. word.now) words.now) → (source.new ≡ source.old) × (sink.new ≡ sink.old) × (gpu.new ≡ gpu.old) }
     ensures read { result ≡ Status.ReadFault → Rose (S.faults source.old) (S.faults source.new) }
     ensures write { result ≡ Status.WriteFault → Rose (K.faults sink.old) (K.faults sink.new) }
-    ensures device { result ≢ Status.DeviceFault }
+    ensures device { result ≡ Status.DeviceFault → counted (G.state gpu.old).faults ≤ (G.state gpu.new).faults }
     ensures complete { NamesRun (map (λ word. word.now) words.now)
         → ¬ Rose (S.faults source.old) (S.faults source.new) → ¬ Rose (K.faults sink.old) (K.faults sink.new)
+        → ¬ (counted (G.state gpu.old).faults ≤ (G.state gpu.new).faults)
         → result ≢ Status.OutOfMemory → tells_ending result ≡ true }
 {
     match task_of(alloc, words) {

@@ -2,11 +2,13 @@
 #![tactic(auto)]
 
 mod call;
-mod laws;
-mod machine;
+mod ending;
+mod events;
 mod run;
 mod script;
+mod stage;
 mod stopped;
+mod tell;
+mod turns;
 
 pub use call::{Status, mediate};
-pub use laws::equal_guests_are_told_the_same;

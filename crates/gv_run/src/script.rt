@@ -1,11 +1,12 @@
-ghost use Rattle.std.specs.Prelude.{◌≡◌, ◌≢◌, ◌+◌, ◌^◌, ◌<◌, ◌≤◌, [], IfOk, OnOk, IfSome};
+ghost use Rattle.std.specs.Prelude.{◌≡◌, ◌≢◌, ◌+◌, ◌^◌, ◌<◌, ◌≤◌, [], true, IfOk, OnOk, IfSome};
 ghost use Rattle.gv_outside.specs.Causes.{Rose};
 ghost use Rattle.gv_lines.specs.Reader.{new_reader};
 ghost use Rattle.gv_gpu.specs.Device.{IsEmpty};
 ghost use Rattle.gv_text.specs.Script.{script_of, script_limit, nothing_known};
 ghost use Rattle.gv_run.specs.Headline.{TakesAtMost};
 ghost use Rattle.gv_run.specs.Streamed.{StopsAtFault, Begun, RunsLines, Finishes, ending_at, is_last};
-ghost use Rattle.gv_run.specs.Tied.{Agrees};
+ghost use Rattle.gv_text.specs.declared.ending.Ending.TheVariants.{Done as DoneThere};
+ghost use Rattle.gv_run.specs.Tied.{Agrees, is_first, is_running};
 
 use crate::run::Run;
 use crate::stopped::Stopped;
@@ -49,14 +50,15 @@ fn run_lines<S: Source, K: Sink, G: Gpu>(
     run: &mut Run,
     reader: &mut LineReader,
 ) -> Result<Ending, Stopped>
-    requires agrees { Agrees (G.state gpu.old) run.old.known run.old.guests.items }
+    requires agrees { Agrees (G.state gpu.old) run.old.known run.old.stage }
     requires known { run.old.known ≡ nothing_known }
-    requires guests { run.old.guests.items ≡ [] }
+    requires stage { is_first run.old.stage ≡ true }
     requires report { run.old.report ≡ [] }
     requires reader { reader.old ≡ new_reader script_limit }
-    ensures agrees { OnOk result (Agrees (G.state gpu.new) run.new.known run.new.guests.items) }
+    ensures agrees { OnOk result (Agrees (G.state gpu.new) run.new.known run.new.stage) }
+    ensures made { IfOk result (λ ending. ending ≡ DoneThere → is_running run.new.stage ≡ true) }
     ensures done { IfOk result (λ ending. IfSome (S.left source.old) (λ bytes.
-        RunsLines (script_of bytes) ending (G.state gpu.old) (G.state gpu.new) run.new.guests.items run.new.report (K.held sink.old) (K.held sink.new))) }
+        RunsLines (script_of bytes) ending (G.state gpu.old) (G.state gpu.new) run.new.stage run.new.report (K.held sink.old) (K.held sink.new))) }
     ensures fault { result ≡ Err Stopped.Read → IfSome (S.left source.old) (λ bytes.
         StopsAtFault (S.left source.old) (S.left source.new) (K.held sink.old) (K.held sink.new)) }
     ensures begun { IfSome (S.left source.old) (λ bytes. Begun bytes (G.state gpu.old) (G.state gpu.new) (K.held sink.old) (K.held sink.new)) }
@@ -64,6 +66,7 @@ fn run_lines<S: Source, K: Sink, G: Gpu>(
     ensures strays { (G.state gpu.new).strays ≡ (G.state gpu.old).strays }
     ensures read { result ≡ Err Stopped.Read → Rose (S.faults source.old) (S.faults source.new) }
     ensures write { result ≡ Err Stopped.Write → Rose (K.faults sink.old) (K.faults sink.new) }
+    ensures device { result ≡ Err Stopped.Device → 0 < (G.state gpu.new).faults }
     ensures later { K.faults sink.old ≤ K.faults sink.new }
 {
     let mut number = 1u64;
@@ -80,6 +83,7 @@ fn run_lines<S: Source, K: Sink, G: Gpu>(
             return Ok(Ending::BadScript(number));
         };
         if line.is_end() {
+            run.end(alloc, gpu)?;
             return Ok(Ending::Done);
         }
         run.line(alloc, gpu, &line)?;
@@ -108,6 +112,7 @@ pub fn run_script<S: Source, K: Sink, G: Gpu>(
     ensures strays { (G.state gpu.new).strays ≡ (G.state gpu.old).strays }
     ensures read { result ≡ Err Stopped.Read → Rose (S.faults source.old) (S.faults source.new) }
     ensures write { result ≡ Err Stopped.Write → Rose (K.faults sink.old) (K.faults sink.new) }
+    ensures device { result ≡ Err Stopped.Device → 0 < (G.state gpu.new).faults }
 {
     let mut run = Run::new(alloc)?;
     let mut reader = LineReader::new(alloc, LIMIT)?;

@@ -1,15 +1,18 @@
 ghost use Rattle.std.specs.Prelude.{◌≡◌};
+ghost use Rattle.gv_run.specs.Status.{stop_of};
 ghost use Rattle.gv_run.specs.declared.stopped.Stopped.TheVariants as stopped;
 
 use gv_outside::SinkFailed;
-use gv_types::OutOfMemory;
+use gv_types::{OutOfMemory, Stop};
 
-/// Why a run stops before its script's end is told: want of memory, or a fault of the source or the sink.
+/// Why a run stops before its script's end is told: want of memory, or a fault of the source, the sink or the
+/// device.
 #[derive(Clone, Copy, Debug, PartialEq, Eq)]
 pub(crate) enum Stopped {
     OutOfMemory,
     Read,
     Write,
+    Device,
 }
 
 impl From<OutOfMemory> for Stopped {
@@ -25,5 +28,16 @@ impl From<SinkFailed> for Stopped {
 
     fn from(_: SinkFailed) -> Self {
         Stopped::Write
+    }
+}
+
+impl From<Stop> for Stopped {
+    ghost from_gives = { λ stop error. error ≡ stop_of stop };
+
+    fn from(stop: Stop) -> Self {
+        match stop {
+            Stop::OutOfMemory => Stopped::OutOfMemory,
+            Stop::DeviceFault => Stopped::Device,
+        }
     }
 }

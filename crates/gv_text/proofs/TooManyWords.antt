@@ -25,17 +25,17 @@ pub length-values_of : (width : Width) (ws : List (List ℕ)) → IfSome (values
 length-values_of width [] = refl
 length-values_of width (w ∷ ws) = longer (number_below (value_limit width) w) (values_of width ws) (length ws) (length-values_of width ws)
 
-many_refused : (vs : List ℕ) (b d : Bool) (line : Line) → 16 < length vs → check (nat_le (length vs) 16 && b && d) line ≡ None
-many_refused vs b d line many =
+many_refused : (vs : List ℕ) (b : Bool) (line : Line) → 16 < length vs → check (nat_le (length vs) 16 && b) line ≡ None
+many_refused vs b line many =
     let test : nat_le (length vs) 16 ≡ false = grind (arith, nat_tests) in
-    ap (λ t. check (t && b && d) line) test
+    ap (λ t. check (t && b) line) test
 
 write_line-many : (place : Place) (width : Width) (g a : List ℕ) (ws : List (List ℕ)) → 16 < length ws → write_line place width g a ws ≡ None
 write_line-many place width g a ws many =
     always_none (number_below 8 g) _ (λ guest.
     always_none (address_of place width a) _ (λ at.
     bind_none (λ vs. length vs ≡ length ws) (values_of width ws) _ (length-values_of width ws) (λ vs same.
-    many_refused vs _ _ _ (omega arith))))
+    many_refused vs _ _ (omega arith))))
 
 more_words-many : (w g a : List ℕ) (vs : List (List ℕ)) → 16 < length vs → more_words w g a vs ≡ None
 more_words-many w g a vs many = always_none (write_access w) _ (λ (place, width). write_line-many place width g a vs many)
@@ -46,4 +46,5 @@ line_of_words-many (a ∷ []) many = absurd (omega arith)
 line_of_words-many (a ∷ b ∷ []) many = absurd (omega arith)
 line_of_words-many (a ∷ b ∷ c ∷ []) many = absurd (omega arith)
 line_of_words-many (a ∷ b ∷ c ∷ d ∷ []) many = absurd (omega arith)
-line_of_words-many (a ∷ b ∷ c ∷ d ∷ e ∷ ws) many = more_words-many a b c (d ∷ e ∷ ws) (omega arith)
+line_of_words-many (a ∷ b ∷ c ∷ d ∷ e ∷ []) many = absurd (omega arith)
+line_of_words-many (a ∷ b ∷ c ∷ d ∷ e ∷ f ∷ ws) many = more_words-many a b c (d ∷ e ∷ f ∷ ws) (omega arith)

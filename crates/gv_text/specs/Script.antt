@@ -1,5 +1,5 @@
 -- A script: from its bytes to the lines that are accepted, and how it ends.
-use Rattle.std.specs.Prelude.{◌≡◌, refl, ℕ, ◌+◌, List, [], ◌∷◌, Option, Some, None, Bool, true, false, not, nat_lt, nat_le, ◌==◌, ◌&&◌, if◌then◌else◌, length, take}
+use Rattle.std.specs.Prelude.{◌≡◌, refl, ℕ, ◌+◌, List, [], ◌∷◌, Option, Some, None, Bool, true, false, not, nat_lt, nat_le, ◌==◌, ◌&&◌, if◌then◌else◌, length, take, slice_index, slice_set}
 use Rattle.std.specs.List.{slice_split}
 use Rattle.gv_types.specs.Limits.{most_frames}
 use Rattle.gv_types.specs.declared.ranges.Want.{Want}
@@ -8,15 +8,15 @@ use Rattle.gv_text.specs.Number.{◌>>=◌, check}
 use Rattle.gv_text.specs.Grammar.{line_of}
 use Rattle.gv_text.specs.declared.known.Known.{Known}
 use Rattle.gv_text.specs.declared.script_line.Line.{Line}
-use Rattle.gv_text.specs.declared.script_line.Line.TheVariants.{Blank, Guest, Read, Write, Reset, End}
+use Rattle.gv_text.specs.declared.script_line.Line.TheVariants.{Blank, Guest, Read, Write, Elsp, Turn, Move, Reset, End}
 use Rattle.gv_text.specs.declared.script_line.Guest.{Guest as GuestForm}
 use Rattle.gv_text.specs.declared.ending.Ending.{Ending}
 use Rattle.gv_text.specs.declared.ending.Ending.TheVariants.{Done, BadScript, TooLong}
 
--- What the accepted lines have settled: how many guests there are, their frames in all, the pages of
--- the global table that they are given, and whether an event came.
+-- What the accepted lines have settled: how many guests there are, their frames in all and each one's, the
+-- pages of the global table that they are given, and whether an event came.
 abbrev pub nothing_known : Known
-nothing_known = record { guests = 0; frames = 0; given = nothing_given; begun = false }
+nothing_known = record { guests = 0; frames = 0; sizes = 0 ∷ 0 ∷ 0 ∷ 0 ∷ 0 ∷ 0 ∷ 0 ∷ 0 ∷ []; given = nothing_given; begun = false }
 
 -- the pages that a guest asks for
 abbrev pub want_of : GuestForm → Want
@@ -29,19 +29,27 @@ has_room known g =
     && nat_le (known.frames + g.frames) most_frames
     && fits known.given (want_of g)
 
--- A guest is accepted before any event; an event, where its guest is there; `end`, where any is.
+-- whether some guest is there to own the engine
+abbrev pub has_engine : Known → ℕ → Bool
+has_engine known engine = nat_lt 0 known.guests && nat_lt engine 4
+
+-- A guest is accepted before any event; an event, where its guest is there, or a guest for its engine, and
+-- the frame of a move is one of its guest's; `end`, where any guest is.
 abbrev pub accepts : Known → Line → Bool
 accepts known Blank = true
 accepts known (Guest g) = not known.begun && has_room known g
 accepts known (Read guest place width at) = nat_lt guest known.guests
 accepts known (Write guest place width at values) = nat_lt guest known.guests
+accepts known (Elsp guest engine second first) = nat_lt guest known.guests && nat_lt engine 4
+accepts known (Turn engine count) = has_engine known engine
+accepts known (Move guest frame) = nat_lt guest known.guests && nat_lt frame (slice_index known.sizes guest)
 accepts known (Reset guest) = nat_lt guest known.guests
 accepts known End = nat_lt 0 known.guests
 accepts known line = false
 
 abbrev pub known_after : Known → Line → Known
 known_after known Blank = known
-known_after known (Guest g) = record known { guests = known.guests + 1; frames = known.frames + g.frames; given = given_after known.given (want_of g) }
+known_after known (Guest g) = record known { guests = known.guests + 1; frames = known.frames + g.frames; sizes = slice_set known.sizes known.guests g.frames; given = given_after known.given (want_of g) }
 known_after known line = record known { begun = true }
 
 -- the line that the bytes are, where it is accepted

@@ -19,6 +19,31 @@ pub(crate) fn guest_number(word: &[u8]) -> Option<u8>
     Some(guest as u8)
 }
 
+/// An engine's number, which is below 4.
+pub(crate) fn engine_number(word: &[u8]) -> Option<u8>
+    ensures value { result ≡ number_below 4 word.now }
+    ensures small { IfSome result (λ engine. engine < 4) }
+{
+    let engine = number_up_to(3, word)?;
+    Some(engine as u8)
+}
+
+/// A context descriptor, of 64 bits.
+pub(crate) fn descriptor(word: &[u8]) -> Option<u64>
+    ensures { result ≡ number_below (2 ^ 64) word.now }
+{
+    number_up_to(u64::MAX, word)
+}
+
+/// A number of turns: a line has at most 65,536 of them.
+pub(crate) fn turn_count(word: &[u8]) -> Option<u32>
+    ensures value { result ≡ number_below 0x10001 word.now }
+    ensures small { IfSome result (λ count. count ≤ 0x10000) }
+{
+    let count = number_up_to(0x1_0000, word)?;
+    Some(count as u32)
+}
+
 /// A number of frames: a guest has at most 16,384 of them.
 pub(crate) fn frame_count(word: &[u8]) -> Option<u32>
     ensures value { result ≡ number_below 0x4001 word.now }

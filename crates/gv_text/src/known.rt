@@ -2,18 +2,20 @@ use crate::{Guest, Line};
 use gv_balloon::Given;
 use gv_types::MAX_FRAMES;
 
-/// What the accepted lines of a script have settled: how many guests there are, their frames in all,
-/// the pages of the global table that they are given, and whether an event came.
+/// What the accepted lines of a script have settled: how many guests there are, their frames in all and
+/// each one's, the pages of the global table that they are given, and whether an event came.
 #[derive(Clone, Copy, Debug, PartialEq, Eq)]
 pub struct Known {
     pub guests: u8,
     pub frames: u32,
+    /// How many frames each guest has, by its number.
+    pub sizes: [u32; 8],
     pub given: Given,
     pub begun: bool,
 }
 
 impl Known {
-    ghost use Rattle.std.specs.Prelude.{◌≡◌, ℕ, ◌+◌, ◌≤◌, true, Some, IfSome};
+    ghost use Rattle.std.specs.Prelude.{◌≡◌, ℕ, ◌+◌, ◌<◌, ◌≤◌, true, Some, IfSome, nat_lt, slice_index, slice_set};
     ghost use Rattle.gv_text.specs.Grammar.{IsForm};
     ghost use Rattle.gv_text.specs.Script.{nothing_known, has_room, accepts, accepted, known_after};
 
@@ -21,6 +23,7 @@ impl Known {
     pub const NOTHING: Known = Known {
         guests: 0,
         frames: 0,
+        sizes: [0; 8],
         given: Given::NOTHING,
         begun: false,
     };
@@ -35,6 +38,16 @@ impl Known {
             && self.given.fits(&guest.want())
     }
 
+    // Whether the frame is one of the guest's. No guest has a number past the eighth.
+    fn has_frame(&self, guest: u8, frame: u32) -> bool
+        ensures { result ≡ nat_lt frame (slice_index self.now.sizes guest) }
+    {
+        match self.sizes.get(usize::from(guest)) {
+            Some(frames) => frame < *frames,
+            None => false,
+        }
+    }
+
     // Whether a line is accepted there.
     fn accepts(&self, line: &Line) -> bool
         ensures { result ≡ accepts self.now line.now }
@@ -44,6 +57,9 @@ impl Known {
             Line::Guest(guest) => !self.begun && self.has_room(guest),
             Line::Read { guest, .. } => *guest < self.guests,
             Line::Write { guest, .. } => *guest < self.guests,
+            Line::Elsp { guest, engine, .. } => *guest < self.guests && *engine < 4,
+            Line::Turn { engine, .. } => self.guests > 0 && *engine < 4,
+            Line::Move { guest, frame } => *guest < self.guests && self.has_frame(*guest, *frame),
             Line::Reset { guest } => *guest < self.guests,
             Line::End => self.guests > 0,
             _ => false,
@@ -64,6 +80,16 @@ impl Known {
         }
     }
 
+    // The guests' frames with those of one more guest.
+    fn sizes_with(&self, frames: u32) -> [u32; 8]
+        requires { self.now.guests < 8 }
+        ensures { result ≡ slice_set self.now.sizes self.now.guests frames }
+    {
+        let mut sizes = self.sizes;
+        sizes[usize::from(self.guests)] = frames;
+        sizes
+    }
+
     /// What is known after a line that is accepted.
     pub fn after(&self, line: &Line) -> Known
         requires { accepts self.now line.now ≡ true }
@@ -74,6 +100,7 @@ impl Known {
             Line::Guest(guest) => Known {
                 guests: self.guests + 1,
                 frames: self.frames + guest.frames,
+                sizes: self.sizes_with(guest.frames),
                 given: self.given.after(&guest.want()),
                 ..*self
             },

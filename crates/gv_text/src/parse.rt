@@ -1,8 +1,10 @@
 ghost use Rattle.std.specs.Prelude.{◌≡◌, ℕ, ◌+◌, ◌%◌, ◌^◌, ◌<◌, ◌≤◌, length, map, IfSome, IfOk, ok_or};
-ghost use Rattle.gv_text.specs.Grammar.{one_word, two_words, three_words, four_words, more_words, guest_line, reset_line, read_line, write_line, line_of_words, words_of, line_of, says_nothing, bad_line, IsForm};
+ghost use Rattle.gv_text.specs.Grammar.{one_word, two_words, three_words, four_words, five_words, more_words, access_line, guest_line, elsp_line, turn_line, move_line, reset_line, read_line, write_line, line_of_words, words_of, line_of, says_nothing, bad_line, IsForm};
 
-use crate::access::{highest_address, may_read, may_write, read_access, write_access};
-use crate::fields::{address, frame_count, guest_number, number_u32, values};
+use crate::access::{highest_address, read_access, write_access};
+use crate::fields::{
+    address, descriptor, engine_number, frame_count, guest_number, number_u32, turn_count, values,
+};
 use crate::lines::LONGEST_LINE;
 use crate::{BadLine, Guest, Line};
 use arrayvec::ArrayVec;
@@ -68,6 +70,7 @@ fn of_words(words: &[&[u8]]) -> Option<Line>
         [word, x] => of_two_words(word, x),
         [word, x, y] => of_three_words(word, x, y),
         [word, x, y, z] => of_four_words(word, x, y, z),
+        [word, x, y, z, v] => of_five_words(word, x, y, z, v),
         [word, x, y, values @ ..] => of_more_words(word, x, y, values),
     }
 }
@@ -98,6 +101,19 @@ fn of_three_words(word: &[u8], x: &[u8], y: &[u8]) -> Option<Line>
     ensures value { result ≡ three_words word.now x.now y.now }
     ensures form { IfSome result IsForm }
 {
+    if word == b"turn".as_slice() {
+        turn(x, y)
+    } else if word == b"move".as_slice() {
+        move_frame(x, y)
+    } else {
+        of_read(word, x, y)
+    }
+}
+
+fn of_read(word: &[u8], x: &[u8], y: &[u8]) -> Option<Line>
+    ensures value { result ≡ access_line word.now x.now y.now }
+    ensures form { IfSome result IsForm }
+{
     let (place, width) = read_access(word)?;
     read(place, width, x, y)
 }
@@ -110,6 +126,17 @@ fn of_four_words(word: &[u8], x: &[u8], y: &[u8], z: &[u8]) -> Option<Line>
         guest(x, y, z)
     } else {
         of_more_words(word, x, y, &[z])
+    }
+}
+
+fn of_five_words(word: &[u8], x: &[u8], y: &[u8], z: &[u8], v: &[u8]) -> Option<Line>
+    ensures value { result ≡ five_words word.now x.now y.now z.now v.now }
+    ensures form { IfSome result IsForm }
+{
+    if word == b"elsp".as_slice() {
+        elsp(x, y, z, v)
+    } else {
+        of_more_words(word, x, y, &[z, v])
     }
 }
 
@@ -136,6 +163,43 @@ fn guest(frames: &[u8], low: &[u8], high: &[u8]) -> Option<Line>
     Some(Line::Guest(Guest { frames, low, high }))
 }
 
+fn elsp(guest: &[u8], engine: &[u8], second: &[u8], first: &[u8]) -> Option<Line>
+    ensures value { result ≡ elsp_line guest.now engine.now second.now first.now }
+    ensures form { IfSome result IsForm }
+{
+    let guest = guest_number(guest)?;
+    let engine = engine_number(engine)?;
+    let second = descriptor(second)?;
+    let first = descriptor(first)?;
+    Some(Line::Elsp {
+        guest,
+        engine,
+        second,
+        first,
+    })
+}
+
+fn turn(engine: &[u8], count: &[u8]) -> Option<Line>
+    ensures value { result ≡ turn_line engine.now count.now }
+    ensures form { IfSome result IsForm }
+{
+    let engine = engine_number(engine)?;
+    let count = turn_count(count)?;
+    if count == 0 {
+        return None;
+    }
+    Some(Line::Turn { engine, count })
+}
+
+fn move_frame(guest: &[u8], frame: &[u8]) -> Option<Line>
+    ensures value { result ≡ move_line guest.now frame.now }
+    ensures form { IfSome result IsForm }
+{
+    let guest = guest_number(guest)?;
+    let frame = number_u32(frame)?;
+    Some(Line::Move { guest, frame })
+}
+
 fn reset(guest: &[u8]) -> Option<Line>
     ensures value { result ≡ reset_line guest.now }
     ensures form { IfSome result IsForm }
@@ -150,9 +214,6 @@ fn read(place: Place, width: Width, guest: &[u8], at: &[u8]) -> Option<Line>
 {
     let guest = guest_number(guest)?;
     let at = address(place, width, at)?;
-    if !may_read(place, at, width.bytes()) {
-        return None;
-    }
     Some(Line::Read {
         guest,
         place,
@@ -172,7 +233,7 @@ fn write(place: Place, width: Width, guest: &[u8], at: &[u8], words: &[&[u8]]) -
     let values = values(width, words)?;
     let bytes = width.bytes() * words.len() as u64;
     let last = bytes - width.bytes();
-    if highest_address(place) - at < last || !may_write(place, at, bytes) {
+    if highest_address(place) - at < last {
         return None;
     }
     Some(Line::Write {

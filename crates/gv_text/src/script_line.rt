@@ -51,12 +51,14 @@ pub enum Line {
         at: u64,
         values: Values,
     },
+    /// `elsp G E X Y`: the context descriptors of a submission, of its second element and of its first.
     Elsp {
         guest: u8,
         engine: u8,
         second: u64,
         first: u64,
     },
+    /// `turn E N`: so many turns of an engine, 1 to 65,536.
     Turn {
         engine: u8,
         count: u32,
@@ -64,6 +66,7 @@ pub enum Line {
     Switch {
         engine: u8,
     },
+    /// `move G F`
     Move {
         guest: u8,
         frame: u32,

@@ -6,13 +6,14 @@ use gv_engine::SoftGpu;
 use gv_outside::{MemorySink, MemorySource};
 use gv_run::{Status, mediate};
 use std::alloc::Global;
+use std::process::Abort;
 use std::test::Fail;
 
-struct Row {
-    name: &'static str,
-    script: &'static str,
-    status: Status,
-    report: &'static str,
+pub(crate) struct Row {
+    pub(crate) name: &'static str,
+    pub(crate) script: &'static str,
+    pub(crate) status: Status,
+    pub(crate) report: &'static str,
 }
 
 const ROWS: [Row; 20] = [
@@ -158,13 +159,28 @@ fn run(
     Ok((status, Vec::from_slice(alloc, sink.bytes())?))
 }
 
+// A row's script gives its report, over such a source and such a sink.
+pub(crate) fn check_row(
+    rt: &impl Abort,
+    alloc: Global,
+    row: &Row,
+    read: usize,
+    written: usize,
+) -> Result<(), Fail>
+    requires read { 0 < read }
+    requires written { 0 < written }
+{
+    let (status, report) = run(alloc, &["run"], row.script, read, written)?;
+    assert_eq!(rt; status, row.status, "{}", row.name);
+    assert_eq!(rt; report.as_slice(), row.report.as_bytes(), "{}", row.name);
+    Ok(())
+}
+
 #[test]
 fn worked_scripts(rt: HostRuntime) -> Result<(), Fail> {
     for row in &ROWS {
         for (read, written) in [(1, 5), (2, 1), (3, 2), (7, 65_536), (65_536, 1)] {
-            let (status, report) = run(rt.alloc(), &["run"], row.script, read, written)?;
-            assert_eq!(rt; status, row.status, "{}", row.name);
-            assert_eq!(rt; report.as_slice(), row.report.as_bytes(), "{}", row.name);
+            check_row(&rt, rt.alloc(), row, read, written)?;
         }
     }
     Ok(())

@@ -1,6 +1,6 @@
 use Rattle.std.proofs.Common.{◌≡◌, ◌+◌, ◌-◌, ◌≤◌, length}
 use Rattle.gv_text.specs.Script.{script_limit}
-use Rattle.gv_run.specs.Tied.{Agrees, first_owner, machine_in}
+use Rattle.gv_run.specs.Tied.{Agrees, machine_in}
 use Rattle.gv_run.proofs.Streaming.{Reading}
 use Rattle.gv_run.proofs.script.run_lines.Given as goal
 
@@ -11,8 +11,8 @@ invariant-loop-next g l =
     let left = g.S.Source.left in
     let held = g.K.Sink.held in
     record {
-      agrees : Agrees now l.run.known l.run.guests.items;
-      reading : Reading start (held l.fn.sink) (left l.fn.source) l.reader (left l.source) l.run.known l.number (machine_in now first_owner l.run.guests.items) l.run.report now (held l.sink);
+      agrees : Agrees now l.run.known l.run.stage;
+      reading : Reading start (held l.fn.sink) (left l.fn.source) l.reader (left l.source) l.run.known l.number (machine_in now l.run.stage) l.run.report now (held l.sink);
       numbered : l.number + length l.reader.held ≤ l.reader.taken + 1;
       within : l.reader.taken ≤ script_limit + 1;
       limit : l.reader.limit ≡ script_limit;

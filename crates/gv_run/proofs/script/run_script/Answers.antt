@@ -2,6 +2,7 @@ use Rattle.std.proofs.Common.{ap, sym, ◌∙◌}
 use Rattle.gv_lines.specs.Reader.{new_reader}
 use Rattle.gv_text.specs.Script.{script_limit-is}
 use Rattle.gv_run.proofs.Finishing.{begun-none, finish-begun, finishes}
+use Rattle.gv_run.proofs.Guests.{agrees-first}
 use Rattle.gv_run.proofs.Streaming.{if_some}
 use Rattle.gv_run.proofs.script.run_script.Goals as goal
 
@@ -14,13 +15,16 @@ returns-in_err-reader-clause-begun g c = begun-none (g.S.Source.left c.args.sour
 pub run_lines-requires-clause-reader : goal.run_lines-requires-clause-reader
 run_lines-requires-clause-reader g c = c.in_ok-reader.ensures ∙ ap new_reader (sym script_limit-is)
 
+pub run_lines-requires-clause-agrees : goal.run_lines-requires-clause-agrees
+run_lines-requires-clause-agrees g c = agrees-first (g.G.Gpu.state c.args.gpu.now) c.in_ok-run.run'.known c.in_ok-run.run'.stage c.requires c.in_ok-run.ensures.known c.in_ok-run.ensures.stage
+
 pub returns-in_err-finish-clause-begun : goal.returns-in_err-finish-clause-begun
 returns-in_err-finish-clause-begun g c =
     if_some (g.S.Source.left c.args.source.now) (λ bytes is lines. finish-begun bytes lines (g.K.Sink.held c.finish.new.sink) c.finish.ensures.part) c.in_ok-ending.ensures.done
 
 pub returns-clause-finishes : goal.returns-clause-finishes
 returns-clause-finishes g c =
-    if_some (g.S.Source.left c.args.source.now) (λ bytes is lines. finishes bytes lines (g.K.Sink.held c.finish.new.sink) c.in_ok-ending.ensures.agrees.ties c.in_ok-finish.ensures.told) c.in_ok-ending.ensures.done
+    if_some (g.S.Source.left c.args.source.now) (λ bytes is lines. finishes bytes lines (g.K.Sink.held c.finish.new.sink) c.finish.ensures.memories c.in_ok-finish.ensures.told) c.in_ok-ending.ensures.done
 
 pub returns-clause-begun : goal.returns-clause-begun
 returns-clause-begun g c =

@@ -5,13 +5,14 @@ use Rattle.gv_text.specs.Grammar.{more_words, line_of_words}
 use Rattle.gv_text.proofs.ValueSteps.{no_slice}
 use Rattle.gv_text.proofs.parse.of_words.Goals as goal
 
-many_words : (xs : List (Bor (List ℕ))) (d : Bor (List ℕ)) → 5 ≤ length xs → more_words (get_or xs 0 d).now (get_or xs 1 d).now (get_or xs 2 d).now (map (λ w. w.now) (drop 3 xs)) ≡ line_of_words (map (λ w. w.now) xs)
+many_words : (xs : List (Bor (List ℕ))) (d : Bor (List ℕ)) → 6 ≤ length xs → more_words (get_or xs 0 d).now (get_or xs 1 d).now (get_or xs 2 d).now (map (λ w. w.now) (drop 3 xs)) ≡ line_of_words (map (λ w. w.now) xs)
 many_words [] d many = absurd (omega arith)
 many_words (a ∷ []) d many = absurd (omega arith)
 many_words (a ∷ b ∷ []) d many = absurd (omega arith)
 many_words (a ∷ b ∷ c ∷ []) d many = absurd (omega arith)
 many_words (a ∷ b ∷ c ∷ e ∷ []) d many = absurd (omega arith)
-many_words (a ∷ b ∷ c ∷ e ∷ f ∷ xs) d many = refl
+many_words (a ∷ b ∷ c ∷ e ∷ f ∷ []) d many = absurd (omega arith)
+many_words (a ∷ b ∷ c ∷ e ∷ f ∷ h ∷ xs) d many = refl
 
 pub returns-in-len3-up-clause-value : goal.returns-in-len3-up-clause-value
 returns-in-len3-up-clause-value c =

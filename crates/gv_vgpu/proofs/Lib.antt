@@ -1,3 +1,0 @@
-pub mod Kept
-pub mod Ranges
-pub mod Widened

@@ -1,4 +1,0 @@
-pub mod Access
-pub mod Device
-pub mod Holds
-pub mod Step
