@@ -7,7 +7,7 @@ ghost use Rattle.gv_sched.specs.Rota.{owner_of};
 ghost use Rattle.gv_private.specs.Inputs.{answer};
 ghost use Rattle.gv_mdev.specs.Access.{Replies};
 ghost use Rattle.gv_mdev.specs.Changes.{Stops};
-ghost use Rattle.gv_mediator.specs.Event.{IsEvent, IsGuestEvent, entries_ran, event_done};
+ghost use Rattle.gv_mediator.specs.Event.{GoesToDevice, IsEvent, IsGuestEvent, entries_ran, event_done};
 ghost use Rattle.gv_mdev.specs.Mdev.{private_of};
 ghost use Rattle.gv_mdev.specs.Owners.{is_here};
 ghost use Rattle.gv_mdev.specs.Standing.{HasRoomToLoad, Holds};
@@ -57,7 +57,8 @@ fn answer<G: Gpu>(
 impl Mediator {
     // The guest whose device takes an event: the one that it names, or the owner of its engine.
     fn receiver(&self, event: &Event) -> GuestId
-        requires { (m : Machine) × IsEvent m event.now }
+        requires event { (m : Machine) × IsEvent m event.now }
+        requires device { GoesToDevice event.now }
         ensures { guest_in (event_receiver (owner_of self.now.rota) event.now) ≡ Some result.0 }
     {
         match event {
@@ -67,6 +68,51 @@ impl Mediator {
             Event::Reset { guest } => *guest,
             Event::Turn { engine } => self.rota.owner(*engine),
             Event::Switch { .. } => unreachable!(),
+        }
+    }
+
+    // An event that a guest's device takes.
+    fn guest_event<G: Gpu>(
+        &mut self,
+        alloc: Global,
+        gpu: &mut G,
+        event: &Event,
+    ) -> Result<Reply, Stop>
+        requires tied { Tied (G.state gpu.old) self.old }
+        requires event { IsEvent (machine_of (G.state gpu.old) self.old) event.now }
+        requires device { GoesToDevice event.now }
+        ensures reply { IfOk result (λ reply. map (λ (h : Happened). h.reply) (event_done (machine_of (G.state gpu.old) self.old) event.now).came ≡ reply ∷ []) }
+        ensures machine { OnOk result (machine_of (G.state gpu.new) self.new ≡ (event_done (machine_of (G.state gpu.old) self.old) event.now).left) }
+        ensures tied { OnOk result (Tied (G.state gpu.new) self.new) }
+        ensures ran { OnOk result (Ran (G.state gpu.old) (G.state gpu.new) (entries_ran (event_done (machine_of (G.state gpu.old) self.old) event.now).came)) }
+        ensures stopped { OnErr result (Ran (G.state gpu.old) (G.state gpu.new) []) }
+        ensures cause { IsErrOf result Stop.DeviceFault → counted (G.state gpu.old).faults ≤ (G.state gpu.new).faults }
+    {
+        let guest = self.receiver(event);
+        let here = self.owned_by(guest);
+        let device = &mut self.guests[guest.0 as usize];
+        answer(alloc, gpu, device, guest, here, event)
+    }
+
+    // Does an event, where it goes.
+    fn received<G: Gpu>(
+        &mut self,
+        alloc: Global,
+        gpu: &mut G,
+        event: &Event,
+    ) -> Result<Reply, Stop>
+        requires tied { Tied (G.state gpu.old) self.old }
+        requires event { IsEvent (machine_of (G.state gpu.old) self.old) event.now }
+        ensures reply { IfOk result (λ reply. map (λ (h : Happened). h.reply) (event_done (machine_of (G.state gpu.old) self.old) event.now).came ≡ reply ∷ []) }
+        ensures machine { OnOk result (machine_of (G.state gpu.new) self.new ≡ (event_done (machine_of (G.state gpu.old) self.old) event.now).left) }
+        ensures tied { OnOk result (Tied (G.state gpu.new) self.new) }
+        ensures ran { OnOk result (Ran (G.state gpu.old) (G.state gpu.new) (entries_ran (event_done (machine_of (G.state gpu.old) self.old) event.now).came)) }
+        ensures stopped { OnErr result (Ran (G.state gpu.old) (G.state gpu.new) []) }
+        ensures cause { IsErrOf result Stop.DeviceFault → counted (G.state gpu.old).faults ≤ (G.state gpu.new).faults }
+    {
+        match event {
+            Event::Switch { engine } => self.switch(gpu, *engine),
+            _ => self.guest_event(alloc, gpu, event),
         }
     }
 
@@ -89,10 +135,7 @@ impl Mediator {
         ensures stops { self.new.stopped ≡ is_err result }
         ensures cause { IsErrOf result Stop.DeviceFault → counted (G.state gpu.old).faults ≤ (G.state gpu.new).faults }
     {
-        let guest = self.receiver(event);
-        let here = self.owned_by(guest);
-        let device = &mut self.guests[guest.0 as usize];
-        let answer = answer(alloc, gpu, device, guest, here, event);
+        let answer = self.received(alloc, gpu, event);
         self.stopped = answer.is_err();
         answer
     }
