@@ -5,3 +5,5 @@ mod Receiving
 mod Joining
 mod FirstGuests
 mod Memories
+mod Exchange
+mod Works

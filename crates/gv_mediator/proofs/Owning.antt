@@ -17,6 +17,15 @@ not-both : (g k : ℕ) (owner : Option ℕ) → g ≢ k → is_guest g owner ≡
 not-both g k None differ is = refl
 not-both g k (Some owner) differ is = grind (arith, nat_tests)
 
+pub below-four : (engine : ℕ) → engine < 4 → nat_lt engine 4 ≡ true
+below-four engine below = grind (arith, nat_tests)
+
+pub same-some : (g k : ℕ) → Some g ≡ Some k → g ≡ k
+same-some g k is = cc
+
+pub owns-it : (k : ℕ) → is_guest k (Some k) ≡ true
+owns-it k = grind (arith, nat_tests)
+
 -- no engine has two owners
 pub owners-disjoint : (owners : ℕ → Option ℕ) (g k : ℕ) → g ≢ k → AreDisjoint (owns owners g) (owns owners k)
 owners-disjoint owners g k differ engine is = not-both g k (owners engine) differ is
