@@ -25,7 +25,7 @@ use Rattle.gv_mediator.proofs.Owning.{below-four, owners-disjoint, owns-it, same
 
 -- ---- owners
 
-put-same : {A : Type 0} (f : ℕ → A) (k : ℕ) (v : A) (n : ℕ) → n ≡ k → put f k v n ≡ v
+pub put-same : {A : Type 0} (f : ℕ → A) (k : ℕ) (v : A) (n : ℕ) → n ≡ k → put f k v n ≡ v
 put-same f k v n is = ap (λ b. if b then v else f n) (eq-eqb n k is)
 
 put-other : {A : Type 0} (f : ℕ → A) (k : ℕ) (v : A) (n : ℕ) → n ≢ k → put f k v n ≡ f n

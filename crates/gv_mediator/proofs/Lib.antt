@@ -7,3 +7,4 @@ mod FirstGuests
 mod Memories
 mod Exchange
 mod Works
+mod Switching

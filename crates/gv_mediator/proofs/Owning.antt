@@ -20,6 +20,9 @@ not-both g k (Some owner) differ is = grind (arith, nat_tests)
 pub below-four : (engine : ℕ) → engine < 4 → nat_lt engine 4 ≡ true
 below-four engine below = grind (arith, nat_tests)
 
+pub owner-of-engine : (s : Owners) (engine : ℕ) → engine < 4 → owners_in s engine ≡ Some (owner_of s engine)
+owner-of-engine s engine below = λ i. if below-four engine below i then Some (owner_of s engine) else None
+
 pub same-some : (g k : ℕ) → Some g ≡ Some k → g ≡ k
 same-some g k is = cc
 

@@ -29,7 +29,7 @@ use Rattle.gv_mediator.specs.declared.mediator.Mediator.{Mediator}
 use Rattle.gv_mdev.proofs.Others.{device_stands, device_stays}
 use Rattle.gv_mdev.proofs.Small.{devices_are_small, windows_are_small}
 use Rattle.gv_mediator.proofs.OneGuest.{Changed, OwnersChange, changed-kept, device-there, devices-set, idle-stays, owners-stay, ties-after}
-use Rattle.gv_mediator.proofs.Owning.{below-four, owns-it, same-some}
+use Rattle.gv_mediator.proofs.Owning.{owner-of-engine, owns-it, same-some}
 use Rattle.gv_mediator.proofs.Room.{IsSmall, all-at, is-small, live-below, room-for}
 
 -- ---- results
@@ -47,9 +47,6 @@ ok-then (Err e) P T is next = tt
 takes : (r : Receiver) (k : ℕ) → guest_in r ≡ Some k → r ≡ device k
 takes (device g) k is = let same : g ≡ k = cc in ap device same
 takes (rota engine) k is = cc
-
-owner-of-engine : (s : Owners) (engine : ℕ) → engine < 4 → owners_in s engine ≡ Some (owner_of s engine)
-owner-of-engine s engine below = λ i. if below-four engine below i then Some (owner_of s engine) else None
 
 module _ (d : Device) (m : Mediator) (tied : Tied d m) (one : Event) (k : ℕ) (is : IsEvent (machine_of d m) one) (mine : guest_in (event_receiver (owner_of m.rota) one) ≡ Some k) where
   abbrev pub guests : List Mdev

@@ -21,4 +21,5 @@ returns-clause-tied g c =
     record {
       ties = subst (λ (s : Owners). Ties d (owners_in s) devices) (sym c.new.ensures) (ties-begun d devices c.args.guests.now c.requires.begin made.joined.0 made.joined.1 made.count made.few (length c.args.guests.now) refl);
       guests = ap (λ (s : Owners). s.guests) c.new.ensures ∙ sym made.count;
+      engines = ap (λ (s : Owners). length s.owners) c.new.ensures;
     }
