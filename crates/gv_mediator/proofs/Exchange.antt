@@ -32,7 +32,7 @@ put-other : {A : Type 0} (f : ℕ → A) (k : ℕ) (v : A) (n : ℕ) → n ≢ k
 put-other f k v n differ = ap (λ b. if b then v else f n) (ne_eqb n k differ)
 
 put-again : {A : Type 0} (f : ℕ → A) (k : ℕ) (v w : A) → put (put f k v) k w ≡ put f k w
-put-again f k v w = λ i n. by (f n) (n == k) i
+put-again {A = A} f k v w = λ i n. by (f n) (n == k) i
   where
     by : (x : A) (b : Bool) → (if b then w else (if b then v else x)) ≡ (if b then w else x)
     by x true = refl

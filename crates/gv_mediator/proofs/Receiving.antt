@@ -121,7 +121,7 @@ module _ (d : Device) (m : Mediator) (tied : Tied d m) (one : Event) (k : ℕ) (
           ∙ ap (λ (a : Answered). a.reply ∷ []) answer-same
           ∙ ap (λ (r : Reply). r ∷ []) replies.reply_is
 
-      ran : List JournalEntry
+      abbrev ran : List JournalEntry
       ran = (answer (private_of d old (owns (owners_in m.rota) k)) one).ran
 
       changed : Changed (owns (owners_in m.rota) k) (owns (owners_in m.rota) k) (journalled d ran) e old new

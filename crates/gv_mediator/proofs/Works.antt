@@ -3,10 +3,12 @@ use Rattle.std.proofs.Common.{◌≡◌, ◌≢◌, ℕ, ◌+◌, ◌<◌, ◌�
 use Rattle.std.proofs.lemmas.Bool.{cases_eq}
 use Rattle.std.proofs.lemmas.List.{same_lists, length-map, get_or-map, get_or_default, get_or-set_same, get_or-set_other}
 use Rattle.gv_gpu.specs.Device.{Device}
+use Rattle.gv_gtt.specs.Gtt.{number_of}
 use Rattle.gv_machine.specs.Machine.{work_on}
 use Rattle.gv_private.specs.Work.{has_work}
 use Rattle.gv_mdev.specs.Mdev.{private_of}
 use Rattle.gv_mdev.specs.declared.mdev.Mdev.{Mdev}
+use Rattle.gv_mediator.specs.Rota.{owns}
 use Rattle.gv_mediator.specs.Tied.{devices_in}
 use Rattle.gv_mediator.proofs.OneGuest.{device_in}
 
@@ -34,7 +36,7 @@ module _ (works : List Bool) (guests : List Mdev) (engine : ℕ) (d : Device) (o
       let there : k < length (map private guests) = subst (λ n. k < n) (sym (length-map guests private)) h in
       get_or-take (length guests) works k b h
       ∙ get_or_default works k b false (omega arith)
-      ∙ all k v d _ h (get_or_default guests k v first h)
+      ∙ all k v d (owns owners (number_of v.gtt)) h (get_or_default guests k v first h)
       ∙ sym (get_or-map (has_work engine) (map private guests) k (private first) b there ∙ ap (has_work engine) (get_or-map private guests k first (private first) h))
 
   length_same : length (take (length guests) works) ≡ length (work_on engine (devices_in d owners guests))
