@@ -1,5 +1,5 @@
 -- A switch of an engine, and what comes of it for the machine.
-use Rattle.std.proofs.Common.{◌≡◌, ℕ, ◌<◌, ◌≤◌, Bool, true, false, Option, None, Some, List, [], length, set, ap, sym, ◌∙◌, subst, refl}
+use Rattle.std.proofs.Common.{◌≡◌, ℕ, ◌<◌, ◌≤◌, Bool, true, false, Option, None, Some, List, [], length, set, take, ap, sym, ◌∙◌, subst, refl}
 use Rattle.std.proofs.lemmas.List.{append-nil, length-map, length-set, set-get_or}
 use Rattle.std.specs.Vec.{with_item}
 use Rattle.gv_types.specs.Maps.{put}
@@ -33,13 +33,15 @@ ran-both d e f first second = record {
   strays = second.strays ∙ first.strays;
 }
 
+pub works-same :
+    (works : List Bool) (seen guests : List Mdev) (engine n : ℕ) (d : Device) (owners : ℕ → Option ℕ) → seen ≡ guests → n ≡ length guests
+    → ((d : Device) (owners : ℕ → Option ℕ) → take (length seen) works ≡ work_on engine (devices_in d owners seen)) → take n works ≡ work_on engine (devices_in d owners guests)
+works-same works seen guests engine n d owners same many are = ap (λ k. take k works) many ∙ subst (λ gs. take (length gs) works ≡ work_on engine (devices_in d owners gs)) same (are d owners)
+
 module _ (d : Device) (m : Mediator) (tied : Tied d m) (engine : EngineId) (small : engine.0 < 4) (works : List Bool) (works_are : works ≡ work_on engine.0 (devices_in d (owners_in m.rota) m.guests.items))
-    (next : ℕ) (next_is : next ≡ next_owner works (owner_of m.rota engine.0)) (rota : Owners) (rota_is : rota ≡ switched m.rota engine.0 works) where
+    (owner : ℕ) (owner_is : owner ≡ owner_of m.rota engine.0) (next : ℕ) (next_is : next ≡ next_owner works (owner_of m.rota engine.0)) (rota : Owners) (rota_is : rota ≡ switched m.rota engine.0 works) where
   abbrev pub guests : List Mdev
   guests = m.guests.items
-
-  abbrev pub owner : ℕ
-  owner = owner_of m.rota engine.0
 
   rota_given : rota ≡ record m.rota { owners = set m.rota.owners engine.0 next }
   rota_given = rota_is ∙ ap (λ n. record m.rota { owners = set m.rota.owners engine.0 n }) (sym next_is)
@@ -51,7 +53,7 @@ module _ (d : Device) (m : Mediator) (tied : Tied d m) (engine : EngineId) (smal
   owners-then = ap owner_of (rota_is ∙ ap (switched m.rota engine.0) works_are) ∙ sym (owners-switched m.rota (machine_of d m) engine small tied.engines has_owners).owners
 
   next-then : next ≡ owner_after (machine_of d m) engine.0
-  next-then = next_is ∙ ap (λ w. next_owner w owner) works_are
+  next-then = next_is ∙ ap (λ w. next_owner w (owner_of m.rota engine.0)) works_are
 
   pub reply-then : (owner_told next).reply ≡ (owner_told (owner_after (machine_of d m) engine.0)).reply
   reply-then = ap (λ n. (owner_told n).reply) next-then
@@ -59,14 +61,17 @@ module _ (d : Device) (m : Mediator) (tied : Tied d m) (engine : EngineId) (smal
   pub next-there : next < rota.guests → next < length guests
   next-there there = subst (λ n. next < n) (ap (λ (r : Owners). r.guests) rota_given ∙ tied.guests) there
 
+  mine : owners_in m.rota engine.0 ≡ Some owner
+  mine = owner-of-engine m.rota engine.0 small ∙ ap Some (sym owner_is)
+
   pub owner-there : owner < length guests
-  owner-there = tied.ties.there engine.0 owner (owner-of-engine m.rota engine.0 small)
+  owner-there = tied.ties.there engine.0 owner mine
 
   -- ---- the owner stays
 
   module _ (same : next ≡ owner) where
     rota_same : rota ≡ m.rota
-    rota_same = rota_given ∙ ap (λ n. record m.rota { owners = set m.rota.owners engine.0 n }) same ∙ ap (λ owners. record m.rota { owners = owners }) (set-get_or m.rota.owners engine.0 0)
+    rota_same = rota_given ∙ ap (λ n. record m.rota { owners = set m.rota.owners engine.0 n }) (same ∙ owner_is) ∙ ap (λ owners. record m.rota { owners = owners }) (set-get_or m.rota.owners engine.0 0)
 
     pub machine-stays : machine_of d (record m { rota = rota }) ≡ (switch_course (machine_of d m) engine).left
     machine-stays = λ i. record { devices = devices_in d (owners_in (rota_same i)) guests; owners = owners-then i }
@@ -75,9 +80,6 @@ module _ (d : Device) (m : Mediator) (tied : Tied d m) (engine : EngineId) (smal
     tied-stays = subst (λ (r : Owners). Tied d (record m { rota = r })) (sym rota_same) tied
 
   -- ---- it is put away
-
-  mine : owners_in m.rota engine.0 ≡ Some owner
-  mine = owner-of-engine m.rota engine.0 small
 
   module _ (old : Mdev) (here : IsAt guests owner old) (own : ℕ → Bool) (own_is : own ≡ owns (owners_in m.rota) owner) where
     pub holds-owner : Holds d old own
