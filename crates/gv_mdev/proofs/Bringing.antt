@@ -1,5 +1,6 @@
 -- What a guest has of an engine is brought.
 use Rattle.std.proofs.Common.{◌≡◌, ◌≢◌, ℕ, ◌+◌, ◌<◌, ◌≤◌, ◌==◌, ◌&&◌, Bool, true, false, Option, None, Some, List, [], cond, eqb, ltb, length, get_or, if◌then◌else◌, refl, sym, ap, ◌∙◌, subst, arith}
+use Rattle.std.specs.Prelude.{Result, Ok, Err, OnOk, OnErr}
 use Rattle.std.proofs.lemmas.Bool.{eq-eqb, false≢true}
 use Rattle.std.proofs.lemmas.Bool.Decides.{nat_tests}
 use Rattle.std.proofs.lemmas.List.{get_or_past}
@@ -139,3 +140,13 @@ bring-fails d e v here engine kept same cause = record {
         → cond (cond b true (here k)) (λ _. 0) (cond b (λ n. cond (ltb n 16) (get_or kept n 0) (d.general engine n)) (d.general k)) ≡ cond (cond b true (here k)) (λ _. 0) (d.general k)
     lost k true is = refl
     lost k false is = refl
+
+-- ---- by what a call answered
+
+pub on-ok-then : {T E : Type 0} (a : Result T E) (P Q : Type 0) → (P → Q) → OnOk a P → OnOk a Q
+on-ok-then (Ok value) P Q next holds = next holds
+on-ok-then (Err failed) P Q next holds = tt
+
+pub on-err-both : {T E : Type 0} (a : Result T E) (P Q R : Type 0) → (P → Q → R) → OnErr a P → OnErr a Q → OnErr a R
+on-err-both (Ok value) P Q R next first second = tt
+on-err-both (Err failed) P Q R next first second = next first second
