@@ -1,5 +1,7 @@
 -- The exchange of an engine: what the guest that owned it has of it is put away, and what its new owner has is brought.
-use Rattle.std.specs.Prelude.{◌≡◌, ℕ, ◌≤◌, ◌==◌, Bool, if◌then◌else◌, length}
+use Rattle.std.specs.Prelude.{◌≡◌, ℕ, ◌≤◌, ◌==◌, Bool, Option, None, Some, if◌then◌else◌, length}
+use Rattle.gv_element.specs.Works.{Held}
+use Rattle.gv_sring.specs.Window.{descriptor_at}
 use Rattle.gv_gpu.specs.Device.{Device}
 use Rattle.gv_gpu.specs.Part.{guest_part, outside}
 use Rattle.gv_gtt.specs.Gtt.{frames_of, number_of, ranges_of}
@@ -27,3 +29,9 @@ pub record Exchanges (engines before after : ℕ → Bool) (d e : Device) (old n
   pub ranges : ranges_of new.gtt ≡ ranges_of old.gtt
   pub outside : outside (guest_part (number_of old.gtt) (ranges_of old.gtt) engines) e ≡ outside (guest_part (number_of old.gtt) (ranges_of old.gtt) engines) d
   pub live : LiveMoves d e (own_live old) (own_live new)
+
+-- ---- the shadow context of an element at work
+
+abbrev pub shadow_of : Option Held → Option ℕ
+shadow_of None = None
+shadow_of (Some x) = Some (descriptor_at x.window.guest x.window.engine)
