@@ -111,7 +111,10 @@ impl Mediator {
         ensures cause { IsErrOf result Stop.DeviceFault → counted (G.state gpu.old).faults ≤ (G.state gpu.new).faults }
     {
         match event {
-            Event::Switch { engine } => self.switch(gpu, *engine),
+            Event::Switch { engine } => match self.switch(gpu, *engine) {
+                Ok(reply) => Ok(reply),
+                Err(_) => Err(Stop::DeviceFault),
+            },
             _ => self.guest_event(alloc, gpu, event),
         }
     }

@@ -1,15 +1,16 @@
-ghost use Rattle.std.specs.Prelude.{◌≡◌, ℕ, ◌<◌, ◌≤◌, [], false, length, take, Option, IfOk, OnOk, IsErrOf};
+ghost use Rattle.std.specs.Prelude.{◌≡◌, ◌≢◌, ℕ, ◌<◌, ◌≤◌, [], false, length, take, Option, IfOk, OnOk, OnErr};
 ghost use Rattle.gv_gpu.specs.Change.{Ran};
 ghost use Rattle.gv_gpu.specs.Device.{Device, counted};
 ghost use Rattle.gv_machine.specs.Machine.{owner_after, owner_told, switch_course, work_on};
+ghost use Rattle.gv_sched.specs.Rota.{owner_of};
 ghost use Rattle.gv_mdev.specs.Exchange.{owning};
 ghost use Rattle.gv_mdev.specs.Owners.{is_here};
 ghost use Rattle.gv_mediator.specs.Tied.{Tied, devices_in, machine_of};
 
 use crate::mediator::Mediator;
-use gv_gpu::Gpu;
+use gv_gpu::{Gpu, GpuFailed};
 use gv_mdev::Mdev;
-use gv_types::{Answer, EngineId, GuestId, Reply, Stop};
+use gv_types::{Answer, EngineId, GuestId, Reply};
 
 // Which guests have work on an engine: the first ones of eight.
 fn works_on(guests: &[Mdev], engine: EngineId) -> [bool; 8]
@@ -53,14 +54,15 @@ impl Mediator {
         &mut self,
         gpu: &mut G,
         engine: EngineId,
-    ) -> Result<Reply, Stop>
+    ) -> Result<Reply, GpuFailed>
         requires tied { Tied (G.state gpu.old) self.old }
         requires engine { engine.0 < 4 }
         ensures reply { IfOk result (λ reply. reply ≡ (owner_told (owner_after (machine_of (G.state gpu.old) self.old) engine.0)).reply) }
         ensures machine { OnOk result (machine_of (G.state gpu.new) self.new ≡ (switch_course (machine_of (G.state gpu.old) self.old) engine).left) }
         ensures tied { OnOk result (Tied (G.state gpu.new) self.new) }
         ensures ran { Ran (G.state gpu.old) (G.state gpu.new) [] }
-        ensures cause { IsErrOf result Stop.DeviceFault → counted (G.state gpu.old).faults ≤ (G.state gpu.new).faults }
+        ensures cause { OnErr result (counted (G.state gpu.old).faults ≤ (G.state gpu.new).faults) }
+        ensures changes { OnErr result (owner_after (machine_of (G.state gpu.old) self.old) engine.0 ≢ owner_of self.old.rota engine.0) }
     {
         let works = works_on(&self.guests, engine);
         let owner = self.rota.owner(engine);
