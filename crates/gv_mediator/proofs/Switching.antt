@@ -26,13 +26,7 @@ use Rattle.gv_mediator.proofs.Exchange.{devices-away, devices-brought, owners-gi
 use Rattle.gv_mediator.proofs.Owning.{owner-of-engine, owns-it}
 use Rattle.gv_mediator.proofs.Receiving.{ran-stopped}
 
--- two calls, one after the other
-pub ran-both : (d e f : Device) → Ran d e [] → Ran e f [] → Ran d f []
-ran-both d e f first second = record {
-  journal = second.journal ∙ append-nil e.journal ∙ first.journal;
-  strays = second.strays ∙ first.strays;
-}
-
+-- the works that were taken down are those on the engine
 pub works-same :
     (works : List Bool) (seen guests : List Mdev) (engine n : ℕ) (d : Device) (owners : ℕ → Option ℕ) → seen ≡ guests → n ≡ length guests
     → ((d : Device) (owners : ℕ → Option ℕ) → take (length seen) works ≡ work_on engine (devices_in d owners seen)) → take n works ≡ work_on engine (devices_in d owners guests)
@@ -130,16 +124,3 @@ module _ (d : Device) (m : Mediator) (tied : Tied d m) (engine : EngineId) (smal
 
           pub machine-switched : machine_of f (record m { guests = with_item m.guests owner new; rota = rota }) ≡ (switch_course (machine_of d m) engine).left
           machine-switched = λ i. record { devices = devices-switched i; owners = owners-then i }
-
--- ---- what ran, and faults
-
-pub ran-switched : (own there : ℕ → Bool) (engine : ℕ) (d e f : Device) (old new v : Mdev) → Exchanges own own (owning own engine false) d e old new → Exchanges (owning there engine true) there (owning there engine true) e f v v → Ran d f []
-ran-switched own there engine d e f old new v away brings =
-    ran-both d e f (ran-exchanged own own (owning own engine false) d e old new away) (ran-exchanged (owning there engine true) there (owning there engine true) e f v v brings)
-
--- where the second call stopped
-pub ran-between : (own here : ℕ → Bool) (engine : ℕ) (d e f : Device) (old new v : Mdev) (stop : Stop) → Exchanges own own (owning own engine false) d e old new → Stops here e f v stop → Ran d f []
-ran-between own here engine d e f old new v stop away stops = ran-both d e f (ran-exchanged own own (owning own engine false) d e old new away) (ran-stopped here e f v stop stops)
-
-pub cause-between : (own here : ℕ → Bool) (engine : ℕ) (d e f : Device) (old new v : Mdev) (stop : Stop) → Exchanges own own (owning own engine false) d e old new → Stops here e f v stop → stop ≡ DeviceFault → counted d.faults ≤ f.faults
-cause-between own here engine d e f old new v stop away stops is = subst (λ n. counted n ≤ f.faults) (ap (λ (x : Device). x.faults) away.outside) (stops.cause is)

@@ -14,7 +14,7 @@ ghost use Rattle.gv_mdev.specs.Standing.{HasRoomToLoad, Holds};
 ghost use Rattle.gv_mediator.specs.Tied.{Tied, machine_of};
 
 use crate::mediator::Mediator;
-use gv_gpu::Gpu;
+use gv_gpu::{Gpu, GpuFailed};
 use gv_mdev::Mdev;
 use gv_types::{Answer, Event, GuestId, Reply, Stop};
 use std::alloc::Global;
@@ -113,7 +113,7 @@ impl Mediator {
         match event {
             Event::Switch { engine } => match self.switch(gpu, *engine) {
                 Ok(reply) => Ok(reply),
-                Err(_) => Err(Stop::DeviceFault),
+                Err(GpuFailed) => Err(Stop::DeviceFault),
             },
             _ => self.guest_event(alloc, gpu, event),
         }

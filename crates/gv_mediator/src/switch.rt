@@ -69,7 +69,7 @@ impl Mediator {
         let here = self.owned_by(owner);
         let next = self.rota.switch(engine, &works[..self.guests.len()]);
         if next.0 == owner.0 {
-            return Ok(owner_reply(next));
+            return Ok(owner_reply(owner));
         }
         let there = without(self.owned_by(next), engine);
         self.guests[owner.0 as usize].put_away(gpu, here, engine)?;
