@@ -23,6 +23,7 @@ use Rattle.gv_mdev.specs.Mdev.{private_of}
 use Rattle.gv_mdev.specs.Standing.{HasRoomToLoad, Holds}
 use Rattle.gv_mdev.specs.declared.mdev.Mdev.{Mdev}
 use Rattle.gv_mediator.specs.Event.{IsEvent, IsGuestEvent, entries_ran, event_done, received_by}
+use Rattle.gv_mediator.specs.Listed.{DeviceMayFault, DeviceMayLackMemory, EventMayFault, EventMayLackMemory, ReceiverMayFault, ReceiverMayLackMemory}
 use Rattle.gv_mediator.specs.Rota.{owners_in, owns, is_guest}
 use Rattle.gv_mediator.specs.Tied.{IsAt, Tied, Ties, devices_in, machine_of}
 use Rattle.gv_mediator.specs.declared.mediator.Mediator.{Mediator}
@@ -108,6 +109,17 @@ module _ (d : Device) (m : Mediator) (tied : Tied d m) (one : Event) (k : ℕ) (
 
     pub live-here : d.live < 131072
     live-here = subst (λ n. n < 131072) (sym tied.ties.live) (live-below guests (all-at IsSmall guests small) tied.ties.few tied.ties.eight)
+
+    -- ---- at which it may stop
+
+    receiver-is : event_receiver (owner_of m.rota) one ≡ device k
+    receiver-is = takes (event_receiver (owner_of m.rota) one) k mine
+
+    pub may-fault : DeviceMayFault (private_of d old (owns (owners_in m.rota) k)) one → EventMayFault (machine_of d m) one
+    may-fault may = subst (ReceiverMayFault (machine_of d m) one) (sym receiver-is) (subst (λ p. DeviceMayFault p one) (sym device-is) may)
+
+    pub may-lack : DeviceMayLackMemory (private_of d old (owns (owners_in m.rota) k)) one → EventMayLackMemory (machine_of d m) one
+    may-lack may = subst (ReceiverMayLackMemory (machine_of d m) one) (sym receiver-is) (subst (λ p. DeviceMayLackMemory p one) (sym device-is) may)
 
     -- ---- what comes of it
 

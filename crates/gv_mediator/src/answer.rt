@@ -8,6 +8,7 @@ ghost use Rattle.gv_private.specs.Inputs.{answer};
 ghost use Rattle.gv_mdev.specs.Access.{Replies};
 ghost use Rattle.gv_mdev.specs.Changes.{Stops};
 ghost use Rattle.gv_mediator.specs.Event.{GoesToDevice, IsEvent, IsGuestEvent, entries_ran, event_done};
+ghost use Rattle.gv_mediator.specs.Listed.{AnswersOnce, DeviceMayFault, DeviceMayLackMemory, EventMayFault, EventMayLackMemory};
 ghost use Rattle.gv_mdev.specs.Mdev.{private_of};
 ghost use Rattle.gv_mdev.specs.Owners.{is_here};
 ghost use Rattle.gv_mdev.specs.Standing.{HasRoomToLoad, Holds};
@@ -35,6 +36,9 @@ fn answer<G: Gpu>(
     requires event { IsGuestEvent (number_of device.old.gtt) (length (frames_of device.old.gtt).pages) (is_here here) event.now }
     ensures replies { IfOk result (λ reply. Replies (is_here here) (G.state gpu.old) (G.state gpu.new) device.old device.new (answer (private_of (G.state gpu.old) device.old (is_here here)) event.now) reply) }
     ensures stops { IfErr result (λ stop. Stops (is_here here) (G.state gpu.old) (G.state gpu.new) device.old stop) }
+    ensures faults { IsErrOf result Stop.DeviceFault → DeviceMayFault (private_of (G.state gpu.old) device.old (is_here here)) event.now }
+    ensures lacks { IsErrOf result Stop.OutOfMemory → DeviceMayLackMemory (private_of (G.state gpu.old) device.old (is_here here)) event.now }
+    ensures once { IfOk result (λ reply. AnswersOnce (G.state gpu.old) (G.state gpu.new) event.now reply.answer) }
 {
     match event {
         Event::Turn { engine } => {
@@ -87,6 +91,9 @@ impl Mediator {
         ensures ran { OnOk result (Ran (G.state gpu.old) (G.state gpu.new) (entries_ran (event_done (machine_of (G.state gpu.old) self.old) event.now).came)) }
         ensures stopped { OnErr result (Ran (G.state gpu.old) (G.state gpu.new) []) }
         ensures cause { IsErrOf result Stop.DeviceFault → counted (G.state gpu.old).faults ≤ (G.state gpu.new).faults }
+        ensures faults { IsErrOf result Stop.DeviceFault → EventMayFault (machine_of (G.state gpu.old) self.old) event.now }
+        ensures lacks { IsErrOf result Stop.OutOfMemory → EventMayLackMemory (machine_of (G.state gpu.old) self.old) event.now }
+        ensures once { IfOk result (λ reply. AnswersOnce (G.state gpu.old) (G.state gpu.new) event.now reply.answer) }
     {
         let guest = self.receiver(event);
         let here = self.owned_by(guest);
@@ -109,6 +116,9 @@ impl Mediator {
         ensures ran { OnOk result (Ran (G.state gpu.old) (G.state gpu.new) (entries_ran (event_done (machine_of (G.state gpu.old) self.old) event.now).came)) }
         ensures stopped { OnErr result (Ran (G.state gpu.old) (G.state gpu.new) []) }
         ensures cause { IsErrOf result Stop.DeviceFault → counted (G.state gpu.old).faults ≤ (G.state gpu.new).faults }
+        ensures faults { IsErrOf result Stop.DeviceFault → EventMayFault (machine_of (G.state gpu.old) self.old) event.now }
+        ensures lacks { IsErrOf result Stop.OutOfMemory → EventMayLackMemory (machine_of (G.state gpu.old) self.old) event.now }
+        ensures once { IfOk result (λ reply. AnswersOnce (G.state gpu.old) (G.state gpu.new) event.now reply.answer) }
     {
         match event {
             Event::Switch { engine } => match self.switch(gpu, *engine) {
@@ -120,7 +130,9 @@ impl Mediator {
     }
 
     /// One event: the reply is that of the machine, which is as after the event then. After a `Stop` no further event is
-    /// taken.
+    /// taken. `DeviceFault` comes only at a turn, at a reset, at an access at which the guest's device may fault, and at a
+    /// switch by which the owner changes; `OutOfMemory` only at a turn, at a move, and at a write of a live table or of
+    /// notify.
     pub fn event<G: Gpu>(
         &mut self,
         alloc: Global,
@@ -137,6 +149,9 @@ impl Mediator {
         ensures stopped { OnErr result (Ran (G.state gpu.old) (G.state gpu.new) []) }
         ensures stops { self.new.stopped ≡ is_err result }
         ensures cause { IsErrOf result Stop.DeviceFault → counted (G.state gpu.old).faults ≤ (G.state gpu.new).faults }
+        ensures faults { IsErrOf result Stop.DeviceFault → EventMayFault (machine_of (G.state gpu.old) self.old) event.now }
+        ensures lacks { IsErrOf result Stop.OutOfMemory → EventMayLackMemory (machine_of (G.state gpu.old) self.old) event.now }
+        ensures once { IfOk result (λ reply. AnswersOnce (G.state gpu.old) (G.state gpu.new) event.now reply.answer) }
     {
         let answer = self.received(alloc, gpu, event);
         self.stopped = answer.is_err();

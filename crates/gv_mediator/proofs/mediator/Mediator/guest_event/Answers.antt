@@ -3,11 +3,12 @@ use Rattle.gv_gtt.specs.Gtt.{number_of}
 use Rattle.gv_mdev.specs.Standing.{Holds}
 use Rattle.gv_mdev.specs.Access.{Replies}
 use Rattle.gv_mediator.specs.Event.{IsGuestEvent}
+use Rattle.gv_mediator.specs.Listed.{DeviceMayFault, DeviceMayLackMemory}
 use Rattle.gv_mdev.specs.Mdev.{private_of}
 use Rattle.gv_private.specs.Inputs.{answer}
 use Rattle.gv_mediator.specs.Tied.{IsAt, Tied}
 use Rattle.gv_mediator.specs.declared.mediator.Mediator.{Mediator}
-use Rattle.gv_mediator.proofs.Receiving.{guest-event, live-here, machine-then, ok-all, ok-then, ran-then, receiver-there, reply-is, room-here, tied-then}
+use Rattle.gv_mediator.proofs.Receiving.{guest-event, live-here, machine-then, may-fault, may-lack, ok-all, ok-then, ran-then, receiver-there, reply-is, room-here, tied-then}
 use Rattle.gv_mediator.proofs.mediator.Mediator.guest_event.Goals as goal
 
 pub answer-requires-clause-holds : goal.answer-requires-clause-holds
@@ -107,3 +108,25 @@ returns-clause-ran g c =
     ok-then c.answer.result _ _ c.answer.ensures.replies
     (λ reply replies. ran-then d m c.requires.tied one k c.requires.event c.receiver-guest.ensures old here e new reply
     (subst (λ (own : ℕ → Bool). Replies own d e old new (answer (private_of d old own) one) reply) c.owned_by-here.ensures replies))
+
+pub returns-clause-faults : goal.returns-clause-faults
+returns-clause-faults g c fault =
+    let d = g.G.Gpu.state c.args.gpu.now in
+    let m = c.args.self.now in
+    let k = c.receiver-guest.result.0 in
+    let old = c.index_mut-device.result.now in
+    let one = c.args.event.now in
+    let here : IsAt m.guests.items k old = (receiver-there d m c.requires.tied one k c.requires.event c.receiver-guest.ensures, sym c.index_mut-device.ensures.value) in
+    may-fault d m c.requires.tied one k c.requires.event c.receiver-guest.ensures old here
+    (subst (λ (own : ℕ → Bool). DeviceMayFault (private_of d old own) one) c.owned_by-here.ensures (c.answer.ensures.faults fault))
+
+pub returns-clause-lacks : goal.returns-clause-lacks
+returns-clause-lacks g c lack =
+    let d = g.G.Gpu.state c.args.gpu.now in
+    let m = c.args.self.now in
+    let k = c.receiver-guest.result.0 in
+    let old = c.index_mut-device.result.now in
+    let one = c.args.event.now in
+    let here : IsAt m.guests.items k old = (receiver-there d m c.requires.tied one k c.requires.event c.receiver-guest.ensures, sym c.index_mut-device.ensures.value) in
+    may-lack d m c.requires.tied one k c.requires.event c.receiver-guest.ensures old here
+    (subst (λ (own : ℕ → Bool). DeviceMayLackMemory (private_of d old own) one) c.owned_by-here.ensures (c.answer.ensures.lacks lack))
