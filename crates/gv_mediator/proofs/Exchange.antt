@@ -1,7 +1,6 @@
 -- An engine goes from its owner to another guest: all guests' devices stand, for the same private devices.
-use Rattle.std.proofs.Common.{◌≡◌, ◌≢◌, ℕ, ◌<◌, ◌==◌, nat_lt, Bool, true, false, [], Option, None, Some, List, length, get_or, set, ap, sym, ◌∙◌, ⊎_elim, subst, arith, refl, if◌then◌else◌}
+use Rattle.std.proofs.Common.{◌≡◌, ◌≢◌, ℕ, ◌<◌, ◌==◌, nat_lt, Bool, true, false, [], Option, None, Some, List, length, get_or, set, ap, sym, ◌∙◌, ⊎_elim, subst, refl, if◌then◌else◌}
 use Rattle.std.proofs.lemmas.Bool.{cases_eq, eq-eqb, ne_eqb}
-use Rattle.std.proofs.lemmas.Bool.Decides.{nat_tests}
 use Rattle.std.proofs.lemmas.List.{append-nil, get_or-set_same, get_or-set_other, set-get_or}
 use Rattle.std.proofs.lemmas.Option.{none-some}
 use Rattle.gv_types.specs.Maps.{put}
@@ -10,8 +9,8 @@ use Rattle.gv_gpu.specs.Device.{Device}
 use Rattle.gv_gpu.specs.Part.{AreDisjoint, guest_part, outside}
 use Rattle.gv_gtt.specs.Gtt.{number_of, ranges_of}
 use Rattle.gv_machine.specs.Machine.{no_ranges}
-use Rattle.gv_private.specs.Device.{PrivateDevice, new_device}
-use Rattle.gv_sched.specs.Rota.{Owners, owner_of}
+use Rattle.gv_private.specs.Device.{new_device}
+use Rattle.gv_sched.specs.Rota.{Owners}
 use Rattle.gv_mdev.specs.Changes.{journalled}
 use Rattle.gv_mdev.specs.Exchange.{Exchanges, owning}
 use Rattle.gv_mdev.specs.Mdev.{private_of}

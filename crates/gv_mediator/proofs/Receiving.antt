@@ -1,7 +1,6 @@
 -- The guest that takes an event, and what comes of it for the machine.
-use Rattle.std.proofs.Common.{◌≡◌, ℕ, ◌+◌, ◌*◌, ◌<◌, ◌≤◌, nat_lt, Bool, true, Option, None, Some, List, [], ◌∷◌, ◌++◌, length, map, set, get_or, Result, Ok, Err, IfOk, OnOk, IfErr, OnErr, IsErrOf, refl, sym, ap, ◌∙◌, subst, arith, if◌then◌else◌}
+use Rattle.std.proofs.Common.{◌≡◌, ℕ, ◌+◌, ◌*◌, ◌<◌, ◌≤◌, Bool, None, Some, List, [], ◌∷◌, ◌++◌, length, map, set, Result, Ok, Err, IfOk, OnOk, sym, ap, ◌∙◌, subst}
 use Rattle.std.proofs.lemmas.List.{append-nil, length-map, length-set}
-use Rattle.std.proofs.lemmas.Bool.Decides.{nat_tests}
 use Rattle.std.proofs.lemmas.Option.{none-some}
 use Rattle.std.specs.Vec.{with_item}
 use Rattle.gv_types.specs.declared.event.Event.{Event}
@@ -9,18 +8,18 @@ use Rattle.gv_types.specs.declared.event.Event.TheVariants.{Read, Write, Turn, S
 use Rattle.gv_types.specs.declared.reply.Reply.{Reply}
 use Rattle.gv_types.specs.declared.reply.Stop.{Stop}
 use Rattle.gv_gpu.specs.Change.{Ran}
-use Rattle.gv_gpu.specs.Device.{Device, JournalEntry as Entry, counted}
-use Rattle.gv_gtt.specs.Gtt.{frames_of, memory_of, number_of, own_pages}
+use Rattle.gv_gpu.specs.Device.{Device, JournalEntry as Entry}
+use Rattle.gv_gtt.specs.Gtt.{frames_of, number_of, own_pages}
 use Rattle.gv_machine.specs.Course.{Course}
 use Rattle.gv_machine.specs.Machine.{Machine, Receiver, Happened, device, rota, device_at, event_receiver, guest_in, happened}
 use Rattle.gv_private.specs.Device.{PrivateDevice}
 use Rattle.gv_private.specs.Inputs.{Answered, answer}
 use Rattle.gv_private.specs.Turn.{JournalEntry}
-use Rattle.gv_sched.specs.Rota.{Owners, owner_of}
+use Rattle.gv_sched.specs.Rota.{owner_of}
 use Rattle.gv_mdev.specs.Access.{IsAccess, Replies}
 use Rattle.gv_mdev.specs.Changes.{Stops, entry_of, journalled}
 use Rattle.gv_mdev.specs.Mdev.{private_of}
-use Rattle.gv_mdev.specs.Standing.{HasRoomToLoad, Holds}
+use Rattle.gv_mdev.specs.Standing.{HasRoomToLoad}
 use Rattle.gv_mdev.specs.declared.mdev.Mdev.{Mdev}
 use Rattle.gv_mediator.specs.Event.{IsEvent, IsGuestEvent, entries_ran, event_done, received_by}
 use Rattle.gv_mediator.specs.Listed.{DeviceMayFault, DeviceMayLackMemory, EventMayFault, EventMayLackMemory, ReceiverMayFault, ReceiverMayLackMemory}

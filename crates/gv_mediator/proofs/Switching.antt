@@ -1,20 +1,15 @@
 -- A switch of an engine, and what comes of it for the machine.
-use Rattle.std.proofs.Common.{◌≡◌, ℕ, ◌<◌, ◌≤◌, Bool, true, false, Option, None, Some, List, [], length, set, take, ap, sym, ◌∙◌, subst, refl}
-use Rattle.std.proofs.lemmas.List.{append-nil, length-map, length-set, set-get_or}
+use Rattle.std.proofs.Common.{◌≡◌, ℕ, ◌<◌, Bool, true, false, Option, None, Some, List, length, set, take, ap, sym, ◌∙◌, subst, refl}
+use Rattle.std.proofs.lemmas.List.{length-map, length-set, set-get_or}
 use Rattle.std.specs.Vec.{with_item}
 use Rattle.gv_types.specs.Maps.{put}
 use Rattle.gv_types.specs.declared.ids.EngineId.{EngineId}
-use Rattle.gv_types.specs.declared.reply.Reply.{Reply}
-use Rattle.gv_types.specs.declared.reply.Stop.{Stop}
-use Rattle.gv_types.specs.declared.reply.Stop.TheVariants.{DeviceFault}
-use Rattle.gv_gpu.specs.Change.{Ran}
-use Rattle.gv_gpu.specs.Device.{Device, counted}
+use Rattle.gv_gpu.specs.Device.{Device}
 use Rattle.gv_gtt.specs.Gtt.{number_of}
 use Rattle.gv_machine.specs.Laws.{HasOwners}
-use Rattle.gv_machine.specs.Machine.{Machine, owner_after, owner_told, switch_course, work_on}
+use Rattle.gv_machine.specs.Machine.{owner_after, owner_told, switch_course, work_on}
 use Rattle.gv_machine.proofs.Rotas.{owners-switched}
 use Rattle.gv_sched.specs.Rota.{Owners, next_owner, owner_of, switched}
-use Rattle.gv_mdev.specs.Changes.{Stops}
 use Rattle.gv_mdev.specs.Exchange.{Exchanges, owning}
 use Rattle.gv_mdev.specs.Mdev.{private_of}
 use Rattle.gv_mdev.specs.Standing.{Holds}
@@ -22,9 +17,8 @@ use Rattle.gv_mdev.specs.declared.mdev.Mdev.{Mdev}
 use Rattle.gv_mediator.specs.Rota.{is_guest, owners_in, owns}
 use Rattle.gv_mediator.specs.Tied.{IsAt, Tied, Ties, devices_in, machine_of}
 use Rattle.gv_mediator.specs.declared.mediator.Mediator.{Mediator}
-use Rattle.gv_mediator.proofs.Exchange.{devices-away, devices-brought, owners-given, put-same, ran-exchanged, ties-away, ties-brought, without-engine}
+use Rattle.gv_mediator.proofs.Exchange.{devices-away, devices-brought, owners-given, put-same, ties-away, ties-brought, without-engine}
 use Rattle.gv_mediator.proofs.Owning.{owner-of-engine, owns-it}
-use Rattle.gv_mediator.proofs.Receiving.{ran-stopped}
 
 -- the works that were taken down are those on the engine
 pub works-same :

@@ -1,5 +1,5 @@
 -- Which guests have work on an engine, one after another.
-use Rattle.std.proofs.Common.{◌≡◌, ◌≢◌, ℕ, ◌+◌, ◌<◌, ◌≤◌, Bool, false, Option, List, [], ◌∷◌, length, get_or, set, take, map, ap, sym, ◌∙◌, ⊎_elim, subst, refl, arith, length-take, get_or-take}
+use Rattle.std.proofs.Common.{◌≡◌, ℕ, ◌+◌, ◌<◌, ◌≤◌, Bool, false, Option, List, [], ◌∷◌, length, get_or, set, take, map, ap, sym, ◌∙◌, ⊎_elim, subst, refl, arith, length-take, get_or-take}
 use Rattle.std.proofs.lemmas.Bool.{cases_eq}
 use Rattle.std.proofs.lemmas.List.{same_lists, length-map, get_or-map, get_or_default, get_or-set_same, get_or-set_other}
 use Rattle.gv_gpu.specs.Device.{Device}

@@ -1,5 +1,5 @@
 -- How the machine stands in the shared device.
-use Rattle.std.specs.Prelude.{◌≡◌, ◌≢◌, ℕ, ◌<◌, ◌≤◌, List, Bool, false, Option, None, Some, All, length, map, slice_index_or}
+use Rattle.std.specs.Prelude.{◌≡◌, ◌≢◌, ℕ, ◌<◌, ◌≤◌, List, false, Option, None, Some, All, length, map, slice_index_or}
 use Rattle.std.specs.List.{sum_by}
 use Rattle.gv_types.specs.declared.ids.Label.{Label}
 use Rattle.gv_types.specs.declared.ranges.Ranges.{Ranges}

@@ -102,12 +102,7 @@ impl Mediator {
     }
 
     // Does an event, where it goes.
-    fn received<G: Gpu>(
-        &mut self,
-        alloc: Global,
-        gpu: &mut G,
-        event: &Event,
-    ) -> Result<Reply, Stop>
+    fn received<G: Gpu>(&mut self, alloc: Global, gpu: &mut G, event: &Event) -> Result<Reply, Stop>
         requires tied { Tied (G.state gpu.old) self.old }
         requires event { IsEvent (machine_of (G.state gpu.old) self.old) event.now }
         ensures reply { IfOk result (λ reply. map (λ (h : Happened). h.reply) (event_done (machine_of (G.state gpu.old) self.old) event.now).came ≡ reply ∷ []) }

@@ -1,5 +1,5 @@
 use Rattle.std.proofs.Common.{length, refl, ap, sym, ◌∙◌, subst}
-use Rattle.gv_sched.specs.Rota.{Owners, first_owners, owner_of}
+use Rattle.gv_sched.specs.Rota.{Owners, owner_of}
 use Rattle.gv_mediator.specs.Rota.{owners_in}
 use Rattle.gv_mediator.specs.Tied.{Ties, devices_in}
 use Rattle.gv_mediator.proofs.FirstGuests.{machine-begun, ties-begun}

@@ -1,9 +1,9 @@
-use Rattle.std.proofs.Common.{◌≡◌, ℕ, Bool, false, List, set, take, ap, sym, ◌∙◌}
+use Rattle.std.proofs.Common.{ℕ, Bool, false, set, take, ap, sym, ◌∙◌}
 use Rattle.gv_mdev.specs.Exchange.{owning}
 use Rattle.gv_mdev.specs.Owners.{is_here}
 use Rattle.gv_mediator.specs.Rota.{owners_in}
 use Rattle.gv_mediator.specs.Tied.{IsAt}
-use Rattle.gv_mediator.proofs.Switching.{away-next, holds-next, holds-owner, machine-stays, machine-switched, next-between, owner-there, owns-engine, reply-then, tied-stays, tied-switched, works-same}
+use Rattle.gv_mediator.proofs.Switching.{away-next, holds-next, holds-owner, machine-stays, machine-switched, next-between, owner-there, owns-engine, tied-stays, tied-switched, works-same}
 use Rattle.gv_mediator.proofs.mediator.Mediator.switch.Goals as goal
 
 pub returns-then-next-owner-clause-machine : goal.returns-then-next-owner-clause-machine
