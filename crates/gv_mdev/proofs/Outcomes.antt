@@ -25,8 +25,8 @@ use Rattle.gv_private.specs.Turn.{command_by, finished, front_effect, front_word
 use Rattle.gv_private.specs.Space.{PrivateSpace}
 use Rattle.gv_fetch.specs.Left.{is_done, stands_of}
 use Rattle.gv_cmd.specs.Allowed.{is_allowed}
-use Rattle.gv_cmd.specs.Decode.{decoded}
-use Rattle.gv_cmd.specs.declared.decode.Unlisted.{Unlisted}
+use Rattle.gv_cmd.specs.Command.{decoded}
+use Rattle.gv_cmd.specs.declared.command.Unlisted.{Unlisted}
 use Rattle.gv_mdev.specs.Changes.{Keeps, Makes, Stops, Turns, injected}
 use Rattle.gv_mdev.specs.Mdev.{element_in, engine_at, no_engine, private_of, working_in}
 use Rattle.gv_mdev.specs.Standing.{Holds, Occupies}
@@ -135,6 +135,10 @@ none-there engines engine other there within was gone = by (slice_index_or engin
     by : (o : Option Held) → is_some o ≡ false → o ≡ None
     by None absent = refl
     by (Some x) absent = absurd (false≢true (sym absent))
+
+-- and where one is
+pub some-there : (engines : List Engine) (engine : ℕ) (other : Engine) (there : Bool) → engine < length engines → there ≡ is_some (slice_index_or engines engine other).element → there ≡ true → IsSome (slice_index_or engines engine no_engine).element
+some-there engines engine other there within was is = (λ i. is_some (get_or_default engines engine no_engine other within i).element) ∙ sym was ∙ is
 
 module _ (d : Device) (v : Mdev) (here : ℕ → Bool) (engine : ℕ) (holds : Holds d v here) (asleep : v.failsafe ≡ false) (none : (engine_at v engine).element ≡ None) where
   abbrev p : PrivateDevice

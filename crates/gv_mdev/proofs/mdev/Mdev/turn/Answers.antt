@@ -9,7 +9,7 @@ use Rattle.gv_mdev.specs.Mdev.{engine_at, private_of}
 use Rattle.gv_mdev.specs.Owners.{is_here}
 use Rattle.gv_mdev.specs.Turn.{StepsOnce}
 use Rattle.gv_mdev.specs.declared.notice.Turned.{Turned}
-use Rattle.gv_mdev.proofs.Outcomes.{idle-turns, list-is-busy, loads-once, none-there, on-err-busy, work-is-busy}
+use Rattle.gv_mdev.proofs.Outcomes.{idle-turns, list-is-busy, loads-once, none-there, on-err-busy, some-there, work-is-busy}
 use Rattle.gv_mdev.proofs.mdev.Mdev.turn.Goals as goal
 
 pub returns-then-is_none-clause-turns : goal.returns-then-is_none-clause-turns
@@ -38,11 +38,14 @@ returns-clause-once g c =
 pub returns-then-is_some-clause-busy : goal.returns-then-is_some-clause-busy
 returns-then-is_some-clause-busy g c =
     let old = c.args.self.now in
-    on-err-busy c.step-then-is_some.result (private_of (g.G.Gpu.state c.args.gpu.now) old (is_here c.args.here)) c.args.engine.0 ?
+    on-err-busy c.step.result (private_of (g.G.Gpu.state c.args.gpu.now) old (is_here c.args.here)) c.args.engine.0
+    (work-is-busy (g.G.Gpu.state c.args.gpu.now) old (is_here c.args.here) c.args.engine.0 c.if-self.false
+    (some-there old.engines c.args.engine.0 c.index-self-engine.result c.is_some.result (subst (λ n. c.args.engine.0 < n) (sym old.four) c.requires.engine) c.is_some.ensures c.if-is_some.true))
 
 pub returns-clause-busy : goal.returns-clause-busy
 returns-clause-busy g c =
     let old = c.args.self.now in
     let none : (engine_at old c.args.engine.0).element ≡ None =
     none-there old.engines c.args.engine.0 c.index-self-engine.result c.is_some.result (subst (λ n. c.args.engine.0 < n) (sym old.four) c.requires.engine) c.is_some.ensures c.if-is_some.false in
-    on-err-busy c.load.result (private_of (g.G.Gpu.state c.args.gpu.now) old (is_here c.args.here)) c.args.engine.0 (list-is-busy (g.G.Gpu.state c.args.gpu.now) old (is_here c.args.here) c.args.engine.0 c.if-self.false none ?)
+    on-err-busy c.load.result (private_of (g.G.Gpu.state c.args.gpu.now) old (is_here c.args.here)) c.args.engine.0
+    (list-is-busy (g.G.Gpu.state c.args.gpu.now) old (is_here c.args.here) c.args.engine.0 c.if-self.false none (λ current. search rules))
