@@ -5,6 +5,7 @@ ghost use Rattle.gv_gpu.specs.Change.{ChangesOnly};
 ghost use Rattle.gv_gpu.specs.Part.{frames_part};
 ghost use Rattle.gv_private.specs.Device.{PrivateDevice};
 ghost use Rattle.gv_private.specs.Grants.{move_answer};
+ghost use Rattle.gv_guest.specs.Move.{IfMoved, MovesFrame, UnlessMoved};
 ghost use Rattle.gv_gtt.specs.Gtt.{frames_of, number_of, ranges_of, nodes_in, over};
 ghost use Rattle.gv_gtt.specs.Standing.{Translates};
 
@@ -26,6 +27,8 @@ impl Gtt {
         ensures ranges { ranges_of self.new ≡ ranges_of self.old }
         ensures nodes { nodes_in self.new ≡ nodes_in self.old }
         ensures changes { ChangesOnly (frames_part (number_of self.old)) 512 (G.state gpu.old) (G.state gpu.new) }
+        ensures moved { IfMoved result (MovesFrame (frames_of self.old) (frames_of self.new) frame (G.state gpu.new)) }
+        ensures unmoved { UnlessMoved result (frames_of self.new ≡ frames_of self.old) }
     {
         self.memory.move_page(gpu, frame)
     }

@@ -10,6 +10,7 @@ mod Resets
 mod ResetAll
 mod Zeros
 pub mod Others
+pub mod Followed
 pub mod Small
 mod Raised
 mod Ended

@@ -1,5 +1,5 @@
 -- What follows of a step, by what the engine answered, and of a turn without an element.
-use Rattle.std.proofs.Common.{◌≡◌, ℕ, ◌^◌, ◌<◌, Bool, true, false, Option, None, Some, List, [], ◌∷◌, Result, Ok, Err, length, slice_index, slice_index_or, if◌then◌else◌, refl, sym, ◌∙◌, subst}
+use Rattle.std.proofs.Common.{◌≡◌, ◌≢◌, ℕ, ◌^◌, ◌<◌, Bool, true, false, Option, None, Some, List, [], ◌∷◌, Result, Ok, Err, length, slice_index, slice_index_or, if◌then◌else◌, refl, sym, ◌∙◌, subst}
 use Rattle.std.specs.Prelude.{IsErr, IsSome, OnErr}
 use Rattle.std.specs.Option.{is_some}
 use Rattle.std.proofs.lemmas.Bool.{false≢true}
@@ -20,9 +20,15 @@ use Rattle.gv_mmio.specs.Mmio.{ports_at}
 use Rattle.gv_private.specs.Device.{PrivateDevice, fails, quietly}
 use Rattle.gv_private.specs.Load.{loaded}
 use Rattle.gv_private.specs.Status.{command_raised}
-use Rattle.gv_private.specs.Turn.{load_by, next_by, turned, turned_as, turned_by}
+use Rattle.gv_private.specs.Device.{Working}
+use Rattle.gv_private.specs.Turn.{command_by, finished, front_effect, front_words, load_by, next_by, run_by, turned, turned_as, turned_by}
+use Rattle.gv_private.specs.Space.{PrivateSpace}
+use Rattle.gv_fetch.specs.Left.{is_done, stands_of}
+use Rattle.gv_cmd.specs.Allowed.{is_allowed}
+use Rattle.gv_cmd.specs.Command.{decoded}
+use Rattle.gv_cmd.specs.declared.command.Unlisted.{Unlisted}
 use Rattle.gv_mdev.specs.Changes.{Keeps, Makes, Stops, Turns, injected}
-use Rattle.gv_mdev.specs.Mdev.{element_in, engine_at, no_engine, private_of}
+use Rattle.gv_mdev.specs.Mdev.{element_in, engine_at, no_engine, private_of, working_in}
 use Rattle.gv_mdev.specs.Standing.{Holds, Occupies}
 use Rattle.gv_mdev.specs.Turn.{Completes, HasEnded, Made, StepsOnce}
 use Rattle.gv_mdev.specs.declared.engine.Engine.{Engine}
@@ -130,6 +136,10 @@ none-there engines engine other there within was gone = by (slice_index_or engin
     by None absent = refl
     by (Some x) absent = absurd (false≢true (sym absent))
 
+-- and where one is
+pub some-there : (engines : List Engine) (engine : ℕ) (other : Engine) (there : Bool) → engine < length engines → there ≡ is_some (slice_index_or engines engine other).element → there ≡ true → IsSome (slice_index_or engines engine no_engine).element
+some-there engines engine other there within was is = (λ i. is_some (get_or_default engines engine no_engine other within i).element) ∙ sym was ∙ is
+
 module _ (d : Device) (v : Mdev) (here : ℕ → Bool) (engine : ℕ) (holds : Holds d v here) (asleep : v.failsafe ≡ false) (none : (engine_at v engine).element ≡ None) where
   abbrev p : PrivateDevice
   p = private_of d v here
@@ -163,3 +173,53 @@ module _ (d : Device) (v : Mdev) (here : ℕ → Bool) (engine : ℕ) (holds : H
         left = λ i. (idle i).left;
         keeps = none-ran here d d v v (turned p engine).ran (λ i. (idle i).ran) (keeps-none d v here holds);
       }
+
+-- ---- a turn that isn't idle
+
+busy-run : (p : PrivateDevice) (engine : ℕ) (w : Working) (ws : List ℕ) (dwords : ℕ) (s : PrivateSpace) (raise : Option ℕ) → (run_by p engine w ws dwords s raise).outcome ≢ outcomes.Idle
+busy-run p engine w ws dwords s None is = cc
+busy-run p engine w ws dwords s (Some bits) is = cc
+
+busy-allowed :
+    (p : PrivateDevice) (engine : ℕ) (w : Working) (ws : List ℕ) (dwords : ℕ) (s : PrivateSpace) (raise : Option ℕ) (allowed : Bool)
+    → (if allowed then run_by p engine w ws dwords s raise else turned_as outcomes.Failed (fails p Command)).outcome ≢ outcomes.Idle
+busy-allowed p engine w ws dwords s raise true is = busy-run p engine w ws dwords s raise is
+busy-allowed p engine w ws dwords s raise false is = cc
+
+busy-command : (p : PrivateDevice) (engine : ℕ) (w : Working) (r : Result (List ℕ × ℕ) Unlisted) → (command_by p engine w r).outcome ≢ outcomes.Idle
+busy-command p engine w (Err unlisted) is = cc
+busy-command p engine w (Ok (ws, dwords)) is = busy-allowed p engine w ws dwords (front_effect p engine w ws).after (front_effect p engine w ws).raise (is_allowed ws (stands_of w.left) engine) is
+
+busy-done : (p : PrivateDevice) (engine : ℕ) (w : Working) (done : Bool) → (if done then turned_as outcomes.Ended (finished p engine w) else command_by p engine w (decoded (front_words p engine w))).outcome ≢ outcomes.Idle
+busy-done p engine w true is = cc
+busy-done p engine w false is = busy-command p engine w (decoded (front_words p engine w)) is
+
+busy-load : (p : PrivateDevice) (r : Result PrivateDevice Reason) → (load_by p r).outcome ≢ outcomes.Idle
+busy-load p (Ok q) is = cc
+busy-load p (Err reason) is = cc
+
+busy-next : (p : PrivateDevice) (engine : ℕ) (running : List ℕ) → (current_of running ≡ None → ⊥) → (next_by p engine running).outcome ≢ outcomes.Idle
+busy-next p engine [] some is = some refl
+busy-next p engine (descriptor ∷ more) some is = busy-load p (loaded p engine descriptor) is
+
+awake-turn : (p : PrivateDevice) (engine : ℕ) → p.failsafe ≡ false → (turned_by p engine (p.engines engine).element).outcome ≢ outcomes.Idle → (turned p engine).outcome ≢ outcomes.Idle
+awake-turn p engine asleep busy is = busy ((λ i. (if sym asleep i then turned_as outcomes.Idle (quietly p) else turned_by p engine (p.engines engine).element).outcome) ∙ is)
+
+-- an element at work makes it busy, and so does a list
+pub work-is-busy : (d : Device) (v : Mdev) (here : ℕ → Bool) (engine : ℕ) → v.failsafe ≡ false → IsSome (engine_at v engine).element → (turned (private_of d v here) engine).outcome ≢ outcomes.Idle
+work-is-busy d v here engine asleep some =
+    let x : Held = held (engine_at v engine).element some in
+    let w : Working = working_in d (number_of v.gtt) engine (here engine) x in
+    let p : PrivateDevice = private_of d v here in
+    awake-turn p engine asleep (λ is. busy-done p engine w (is_done w.left) ((λ i. (turned_by p engine (element_in d (number_of v.gtt) engine (here engine) (sym (held-is (engine_at v engine).element some) i))).outcome) ∙ is))
+
+pub list-is-busy :
+    (d : Device) (v : Mdev) (here : ℕ → Bool) (engine : ℕ) → v.failsafe ≡ false → (engine_at v engine).element ≡ None → (current_of (ports_at v.mmio engine).slots.running ≡ None → ⊥) → (turned (private_of d v here) engine).outcome ≢ outcomes.Idle
+list-is-busy d v here engine asleep none some =
+    let p : PrivateDevice = private_of d v here in
+    awake-turn p engine asleep (λ is. busy-next p engine (ports_at v.mmio engine).slots.running some ((λ i. (turned_by p engine (element_in d (number_of v.gtt) engine (here engine) (sym none i))).outcome) ∙ is))
+
+-- and then it may fail
+pub on-err-busy : {T E : Type 0} (r : Result T E) (p : PrivateDevice) (engine : ℕ) → (turned p engine).outcome ≢ outcomes.Idle → OnErr r ((turned p engine).outcome ≢ outcomes.Idle)
+on-err-busy (Ok value) p engine busy = tt
+on-err-busy (Err failed) p engine busy = busy

@@ -12,4 +12,5 @@ pub mod Loading
 pub mod Turn
 pub mod Access
 pub mod Laws
+pub mod Followed
 pub mod Seen

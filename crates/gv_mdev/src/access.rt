@@ -4,7 +4,7 @@ ghost use Rattle.gv_types.specs.declared.reply.Stop.TheVariants.{DeviceFault};
 ghost use Rattle.gv_gtt.specs.Gtt.{frames_of, number_of};
 ghost use Rattle.gv_private.specs.Grants.{move_answer};
 ghost use Rattle.gv_private.specs.Inputs.{answer};
-ghost use Rattle.gv_mdev.specs.Access.{AccessMayFault, AccessMayLackMemory, IsAccess, Replies};
+ghost use Rattle.gv_mdev.specs.Access.{AccessMayFault, AccessMayLackMemory, AccessMoves, AccessPokes, FrameMoves, IsAccess, Replies};
 ghost use Rattle.gv_mdev.specs.Changes.{Keeps, Stops, replied};
 ghost use Rattle.gv_mdev.specs.Mdev.{private_of};
 ghost use Rattle.gv_mdev.specs.Owners.{is_here};
@@ -45,6 +45,7 @@ impl Mdev {
         ensures device { OnOk result (private_of (G.state gpu.new) self.new (is_here here) ≡ private_of (G.state gpu.old) self.old (is_here here)) }
         ensures keeps { OnOk result (Keeps (is_here here) (G.state gpu.old) (G.state gpu.new) self.old self.new) }
         ensures stops { IfErr result (λ stop. Stops (is_here here) (G.state gpu.old) (G.state gpu.new) self.old stop) }
+        ensures moves { IfOk result (λ moved. FrameMoves (G.state gpu.new) self.old self.new frame moved) }
         ensures memory { OnErr result (result ≡ Err Stop.OutOfMemory) }
     {
         match self.gtt.move_page(gpu, frame) {
@@ -70,6 +71,8 @@ impl Mdev {
         ensures stops { IfErr result (λ stop. Stops (is_here here) (G.state gpu.old) (G.state gpu.new) self.old stop) }
         ensures faults { IsErrOf result Stop.DeviceFault → AccessMayFault (private_of (G.state gpu.old) self.old (is_here here)) event.now }
         ensures lacks { IsErrOf result Stop.OutOfMemory → AccessMayLackMemory (private_of (G.state gpu.old) self.old (is_here here)) event.now }
+        ensures moves { IfOk result (λ reply. AccessMoves (G.state gpu.new) self.old self.new event.now reply.answer) }
+        ensures pokes { IfOk result (λ reply. AccessPokes (G.state gpu.old) (G.state gpu.new) (private_of (G.state gpu.old) self.old (is_here here)) (private_of (G.state gpu.new) self.new (is_here here)) event.now reply.failsafe) }
     {
         match *event {
             Event::Read {

@@ -20,6 +20,9 @@ mod turn;
 mod write;
 
 pub use engine::Engine;
-pub use laws::{a_step_is_its_turn, devices_are_small, other_guests_leave_it};
+pub use laws::{
+    a_step_is_its_turn, devices_are_small, elements_are_loaded, other_guests_leave_it,
+    tables_are_followed,
+};
 pub use mdev::Mdev;
 pub use notice::{Notice, Turned};

@@ -3,6 +3,7 @@ ghost use Rattle.gv_types.specs.Memory.{bytes_of, all_ones};
 ghost use Rattle.gv_types.specs.Places.{end_of};
 ghost use Rattle.gv_private.specs.Access.{dwords_written, range_written, table_at, value_written};
 ghost use Rattle.gv_private.specs.Registers.{dword_written};
+ghost use Rattle.gv_mdev.specs.Access.{WritePokes};
 ghost use Rattle.gv_mdev.specs.Changes.{Makes, Stops};
 ghost use Rattle.gv_mdev.specs.Pair.{pair_written};
 ghost use Rattle.gv_mdev.specs.Listed.{MayFault, MayFaultAt, MayLackMemory, MayLackMemoryAt, ReachesNotify, ReachesReset};
@@ -153,6 +154,7 @@ impl Mdev {
         ensures stops { IfErr result (λ stop. Stops (is_here here) (G.state gpu.old) (G.state gpu.new) self.old stop) }
         ensures faults { IsErrOf result Stop.DeviceFault → MayFault (private_of (G.state gpu.old) self.old (is_here here)) place width at value }
         ensures lacks { IsErrOf result Stop.OutOfMemory → MayLackMemory (private_of (G.state gpu.old) self.old (is_here here)) place width at }
+        ensures pokes { IfOk result (λ notice. WritePokes (G.state gpu.old) (G.state gpu.new) (private_of (G.state gpu.old) self.old (is_here here)) (private_of (G.state gpu.new) self.new (is_here here)) place at notice.failsafe) }
     {
         match place {
             Place::Memory => self.write_memory(gpu, here, width, at, value),

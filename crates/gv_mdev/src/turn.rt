@@ -1,4 +1,4 @@
-ghost use Rattle.std.specs.Prelude.{◌≡◌, ℕ, ◌<◌, Bool, true, false, IfOk, IfErr, IsSome, length, slice_index};
+ghost use Rattle.std.specs.Prelude.{◌≡◌, ◌≢◌, ℕ, ◌<◌, Bool, true, false, IfOk, IfErr, IsSome, OnErr, length, slice_index};
 ghost use Rattle.gv_csb.specs.Status.{in_order};
 ghost use Rattle.gv_gpu.specs.Device.{Device};
 ghost use Rattle.gv_mmio.specs.Mmio.{ports_at};
@@ -207,6 +207,7 @@ impl Mdev {
         ensures turns { IfOk result (λ t. Turns (is_here here) (G.state gpu.old) (G.state gpu.new) self.old self.new (turned (private_of (G.state gpu.old) self.old (is_here here)) engine.0) t.outcome t.notice) }
         ensures stops { IfErr result (λ stop. Stops (is_here here) (G.state gpu.old) (G.state gpu.new) self.old stop) }
         ensures once { IfOk result (λ t. StepsOnce (G.state gpu.old) (G.state gpu.new) engine.0 t.outcome) }
+        ensures busy { OnErr result ((turned (private_of (G.state gpu.old) self.old (is_here here)) engine.0).outcome ≢ Outcome.Idle) }
     {
         if self.failsafe {
             return Ok(Turned {

@@ -9,7 +9,7 @@ use Rattle.gv_mdev.specs.Mdev.{engine_at, private_of}
 use Rattle.gv_mdev.specs.Owners.{is_here}
 use Rattle.gv_mdev.specs.Turn.{StepsOnce}
 use Rattle.gv_mdev.specs.declared.notice.Turned.{Turned}
-use Rattle.gv_mdev.proofs.Outcomes.{idle-turns, loads-once, none-there}
+use Rattle.gv_mdev.proofs.Outcomes.{idle-turns, list-is-busy, loads-once, none-there, on-err-busy, some-there, work-is-busy}
 use Rattle.gv_mdev.proofs.mdev.Mdev.turn.Goals as goal
 
 pub returns-then-is_none-clause-turns : goal.returns-then-is_none-clause-turns
@@ -34,3 +34,18 @@ returns-clause-once g c =
     (λ (t : Turned). StepsOnce (g.G.Gpu.state c.args.gpu.now) (g.G.Gpu.state c.load.new.gpu) c.args.engine.0 t.outcome)
     (λ t turns. loads-once d c.args.self.now (is_here c.args.here) c.args.engine.0 c.requires.holds c.if-self.false none e c.load.new.self t.outcome t.notice turns)
     c.load.ensures.turns
+
+pub returns-then-is_some-clause-busy : goal.returns-then-is_some-clause-busy
+returns-then-is_some-clause-busy g c =
+    let old = c.args.self.now in
+    on-err-busy c.step.result (private_of (g.G.Gpu.state c.args.gpu.now) old (is_here c.args.here)) c.args.engine.0
+    (work-is-busy (g.G.Gpu.state c.args.gpu.now) old (is_here c.args.here) c.args.engine.0 c.if-self.false
+    (some-there old.engines c.args.engine.0 c.index-self-engine.result c.is_some.result (subst (λ n. c.args.engine.0 < n) (sym old.four) c.requires.engine) c.is_some.ensures c.if-is_some.true))
+
+pub returns-clause-busy : goal.returns-clause-busy
+returns-clause-busy g c =
+    let old = c.args.self.now in
+    let none : (engine_at old c.args.engine.0).element ≡ None =
+    none-there old.engines c.args.engine.0 c.index-self-engine.result c.is_some.result (subst (λ n. c.args.engine.0 < n) (sym old.four) c.requires.engine) c.is_some.ensures c.if-is_some.false in
+    on-err-busy c.load.result (private_of (g.G.Gpu.state c.args.gpu.now) old (is_here c.args.here)) c.args.engine.0
+    (list-is-busy (g.G.Gpu.state c.args.gpu.now) old (is_here c.args.here) c.args.engine.0 c.if-self.false none (λ current. search rules))
