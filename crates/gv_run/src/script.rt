@@ -11,7 +11,7 @@ ghost use Rattle.gv_run.specs.Tied.{Agrees, is_first, is_running};
 use crate::run::Run;
 use crate::stopped::Stopped;
 use gv_gpu::Gpu;
-use gv_lines::{LineReader, Next};
+use gv_lines::{LineReader, Next, Outlet};
 use gv_outside::{Sink, Source};
 use gv_text::Ending;
 use gv_types::OutOfMemory;
@@ -117,6 +117,7 @@ pub fn run_script<S: Source, K: Sink, G: Gpu>(
     let mut run = Run::new(alloc)?;
     let mut reader = LineReader::new(alloc, LIMIT)?;
     let ending = run_lines(alloc, source, sink, gpu, &mut run, &mut reader)?;
-    run.finish(sink, gpu, ending)?;
+    let mut outlet = Outlet::Sink;
+    run.finish(&mut outlet, sink, gpu, ending)?;
     Ok(ending)
 }
