@@ -1,10 +1,10 @@
 -- Bytes that pass through a writer to a sink, or into totals.
-use Rattle.std.proofs.Common.{◌≡◌, ℕ, ◌+◌, ◌≤◌, List, [], ◌∷◌, ◌++◌, Option, None, Some, length, take, drop, refl, ap, sym, ◌∙◌, arith, subst, length-append, length-drop}
-use Rattle.std.specs.Io.KnownBytes.{Appends, Keeps}
+use Rattle.std.proofs.Common.{◌≡◌, ℕ, ◌+◌, ◌≤◌, List, [], ◌∷◌, ◌++◌, Option, length, take, drop, refl, ap, sym, ◌∙◌, arith, subst, length-append, length-drop}
+use Rattle.std.specs.Io.KnownBytes.{Appends}
 use Rattle.std.proofs.KnownBytes.{Appends-nil, Appends-trans}
-use Rattle.std.proofs.lemmas.List.{drop-drop, take-append-le, drop-append-le, append-nil}
+use Rattle.std.proofs.lemmas.List.{drop-drop, take-append-le, drop-append-le}
 use Rattle.gv_outside.proofs.Pieces.{front_more}
-use Rattle.gv_lines.specs.Outlet.{Got, written, summed, Gets, GetsFront, Passes}
+use Rattle.gv_lines.specs.Outlet.{Got, written, summed, Gets, Passes}
 use Rattle.gv_lines.specs.Summary.{totals_after, after_byte}
 use Rattle.gv_lines.specs.Writer.{PassesOn}
 use Rattle.gv_lines.specs.declared.totals.Totals.{Totals}

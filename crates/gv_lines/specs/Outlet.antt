@@ -1,5 +1,5 @@
 -- Where a report goes, and what that got of it.
-use Rattle.std.specs.Prelude.{◌≡◌, ℕ, ◌≤◌, ⊥, List, Option, length, take, drop}
+use Rattle.std.specs.Prelude.{◌≡◌, ℕ, ◌≤◌, List, Option, length, take, drop}
 use Rattle.std.specs.Io.KnownBytes.{Appends}
 use Rattle.gv_lines.specs.declared.outlet.Outlet.{Outlet}
 use Rattle.gv_lines.specs.declared.outlet.Outlet.TheVariants as outlets
