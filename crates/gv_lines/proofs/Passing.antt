@@ -4,7 +4,7 @@ use Rattle.std.specs.Io.KnownBytes.{Appends}
 use Rattle.std.proofs.KnownBytes.{Appends-nil, Appends-trans}
 use Rattle.std.proofs.lemmas.List.{drop-drop, take-append-le, drop-append-le}
 use Rattle.gv_outside.proofs.Pieces.{front_more}
-use Rattle.gv_lines.specs.Outlet.{Got, written, summed, Gets, Passes}
+use Rattle.gv_lines.specs.Outlet.{Got, in_sink, in_totals, Gets, Passes}
 use Rattle.gv_lines.specs.Summary.{totals_after, after_byte}
 use Rattle.gv_lines.specs.Writer.{PassesOn}
 use Rattle.gv_lines.specs.declared.totals.Totals.{Totals}
@@ -17,17 +17,17 @@ totals-more t [] ys = refl
 totals-more t (x ∷ xs) ys = totals-more (after_byte t x) xs ys
 
 pub gets-none : (a : Got) → Gets a a []
-gets-none (written held) = Appends-nil held
-gets-none (summed totals held) = (refl, refl)
+gets-none (in_sink held) = Appends-nil held
+gets-none (in_totals totals held) = (refl, refl)
 
 pub gets-more : (a b c : Got) (xs ys : List ℕ) → Gets a b xs → Gets b c ys → Gets a c (xs ++ ys)
-gets-more (written a) (written b) (written c) xs ys first second = Appends-trans a b c xs ys first second
-gets-more (written a) (written b) (summed t c) xs ys first second = absurd second
-gets-more (written a) (summed s b) c xs ys first second = absurd first
-gets-more (summed r a) (summed s b) (summed t c) xs ys first second =
+gets-more (in_sink a) (in_sink b) (in_sink c) xs ys first second = Appends-trans a b c xs ys first second
+gets-more (in_sink a) (in_sink b) (in_totals t c) xs ys first second = absurd second
+gets-more (in_sink a) (in_totals s b) c xs ys first second = absurd first
+gets-more (in_totals r a) (in_totals s b) (in_totals t c) xs ys first second =
     (second.0 ∙ ap (λ (s : Totals). totals_after s ys) first.0 ∙ sym (totals-more r xs ys), second.1 ∙ first.1)
-gets-more (summed r a) (summed s b) (written c) xs ys first second = absurd second
-gets-more (summed r a) (written b) c xs ys first second = absurd first
+gets-more (in_totals r a) (in_totals s b) (in_sink c) xs ys first second = absurd second
+gets-more (in_totals r a) (in_sink b) c xs ys first second = absurd first
 
 -- ---- what passes
 
@@ -62,13 +62,13 @@ passes-trans x y z a b c first second = subst (λ l. Passes x l a c) (sym second
 -- ---- the same over a sink
 
 pub PassesOn-none : (bytes : List ℕ) (a : Option (List ℕ)) → PassesOn bytes bytes a a
-PassesOn-none bytes a = passes-none bytes (written a)
+PassesOn-none bytes a = passes-none bytes (in_sink a)
 
 pub PassesOn-step : (bytes held : List ℕ) (a b c : Option (List ℕ)) (n : ℕ) → PassesOn bytes held a b → n ≤ length held → Appends b c (take n held) → PassesOn bytes (drop n held) a c
-PassesOn-step bytes held a b c n first few more = passes-step bytes held (written a) (written b) (written c) n first few more
+PassesOn-step bytes held a b c n first few more = passes-step bytes held (in_sink a) (in_sink b) (in_sink c) n first few more
 
 pub PassesOn-more : (bytes held more : List ℕ) (a b : Option (List ℕ)) → PassesOn bytes held a b → PassesOn (bytes ++ more) (held ++ more) a b
-PassesOn-more bytes held more a b first = passes-more bytes held more (written a) (written b) first
+PassesOn-more bytes held more a b first = passes-more bytes held more (in_sink a) (in_sink b) first
 
 pub PassesOn-trans : (x y z : List ℕ) (a b c : Option (List ℕ)) → PassesOn x y a b → PassesOn y z b c → PassesOn x z a c
-PassesOn-trans x y z a b c first second = passes-trans x y z (written a) (written b) (written c) first second
+PassesOn-trans x y z a b c first second = passes-trans x y z (in_sink a) (in_sink b) (in_sink c) first second

@@ -8,18 +8,18 @@ use Rattle.gv_lines.specs.Summary.{no_totals, totals_after}
 
 -- What was got of a report: bytes in a sink, as far as it tells them, or totals, beside a sink that is left alone.
 pub data Got : Type 0 where
-  written : Option (List ℕ) → Got
-  summed : Totals → Option (List ℕ) → Got
+  in_sink : Option (List ℕ) → Got
+  in_totals : Totals → Option (List ℕ) → Got
 
 -- what an outlet got, where the sink holds this
 abbrev pub got : Outlet → Option (List ℕ) → Got
-got outlets.Sink held = written held
-got (outlets.Totals totals) held = summed totals held
+got outlets.Sink held = in_sink held
+got (outlets.Totals totals) held = in_totals totals held
 
 -- these bytes were got
 abbrev pub Gets : Got → Got → List ℕ → Type 0
-Gets (written old) (written new) bytes = Appends old new bytes
-Gets (summed before old) (summed after new) bytes = (after ≡ totals_after before bytes) × (new ≡ old)
+Gets (in_sink old) (in_sink new) bytes = Appends old new bytes
+Gets (in_totals before old) (in_totals after new) bytes = (after ≡ totals_after before bytes) × (new ≡ old)
 Gets before after bytes = ⊥
 
 -- Of these bytes a front was got, and the rest is held.

@@ -10,4 +10,5 @@ pub mod ManyTurns
 pub mod Memories
 pub mod Saying
 pub mod Streaming
+pub mod WholeScript
 pub mod Words
