@@ -6,6 +6,7 @@ pub mod Guests
 pub mod Journal
 pub mod Left
 pub mod Loops
+pub mod Making
 pub mod ManyTurns
 pub mod Memories
 pub mod Saying
