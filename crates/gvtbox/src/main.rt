@@ -8,6 +8,8 @@ mod engines;
 mod layers;
 #[cfg(test)]
 mod rows;
+#[cfg(test)]
+mod switches;
 
 use gv_program::exit_code;
 use std::process::ExitCode;
