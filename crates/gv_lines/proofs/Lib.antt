@@ -1,4 +1,5 @@
 pub mod Passing
+pub mod Summing
 pub mod Buffer
 pub mod Lines
 pub mod ComingIn

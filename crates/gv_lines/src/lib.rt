@@ -4,11 +4,15 @@
 
 mod first;
 mod next;
+mod outlet;
 mod reader;
 #[cfg(test)]
 mod tests;
+mod totals;
 mod writer;
 
 pub use next::Next;
+pub use outlet::Outlet;
 pub use reader::LineReader;
+pub use totals::Totals;
 pub use writer::ReportWriter;

@@ -1,5 +1,5 @@
 //! Readers over sources in memory, and writers over sinks in memory.
-use crate::{LineReader, Next, ReportWriter};
+use crate::{LineReader, Next, Outlet, ReportWriter, Totals};
 use gv_outside::{MemorySink, MemorySource, SinkFailed, SourceFailed};
 use gv_types::OutOfMemory;
 use std::alloc::Global;
@@ -168,5 +168,34 @@ fn what_is_not_written_stays_held(rt: HostRuntime) -> Result<(), Fail> {
     assert_eq!(rt; writer.push(b"done\n"), Ok(()));
     assert_eq!(rt; writer.flush(&mut sink), Ok(()));
     assert_eq!(rt; sink.bytes(), b"refused 4\ndone\n".as_slice());
+    Ok(())
+}
+
+#[test]
+fn a_report_is_summed_up(rt: HostRuntime) -> Result<(), Fail> {
+    let alloc = rt.alloc();
+    let mut sink = MemorySink::new(alloc, 0, 1, Vec::new(alloc)).map_err(|_| "no memory")?;
+    let mut outlet = Outlet::Totals(Totals::NONE);
+    let mut writer = ReportWriter::new(alloc).map_err(|_| "no memory")?;
+    assert_eq!(rt; writer.push(b"do"), Ok(()));
+    assert_eq!(rt; writer.pass_to(&mut outlet, &mut sink), Ok(()));
+    assert_eq!(rt; writer.push(b"ne\n"), Ok(()));
+    assert_eq!(rt; writer.flush_to(&mut outlet, &mut sink), Ok(()));
+    let totals = outlet.totals();
+    assert_eq!(rt; (totals.lines, totals.bytes, totals.fold), (1, 5, 95_767_752));
+    Ok(())
+}
+
+#[test]
+fn an_outlet_passes_a_report_on(rt: HostRuntime) -> Result<(), Fail> {
+    let alloc = rt.alloc();
+    let mut sink = MemorySink::new(alloc, 8, 1, Vec::new(alloc)).map_err(|_| "no memory")?;
+    let mut outlet = Outlet::Sink;
+    let mut writer = ReportWriter::new(alloc).map_err(|_| "no memory")?;
+    assert_eq!(rt; writer.push(b"done\n"), Ok(()));
+    assert_eq!(rt; writer.pass_to(&mut outlet, &mut sink), Ok(()));
+    assert_eq!(rt; sink.bytes().len(), 0);
+    assert_eq!(rt; writer.flush_to(&mut outlet, &mut sink), Ok(()));
+    assert_eq!(rt; sink.bytes(), b"done\n".as_slice());
     Ok(())
 }

@@ -1,7 +1,10 @@
 ghost use Rattle.std.specs.Prelude.{◌≡◌, ◌≤◌, [], ◌++◌, length, drop, vec_len, IfOk, OnOk, OnErr};
 ghost use Rattle.gv_outside.specs.Causes.{HasCause};
+ghost use Rattle.gv_lines.specs.Outlet.{Passes, got};
+ghost use Rattle.gv_lines.specs.Summary.{totals_after};
 ghost use Rattle.gv_lines.specs.Writer.{PassesOn};
 
+use crate::{Outlet, Totals};
 use gv_outside::{Sink, SinkFailed};
 use gv_types::OutOfMemory;
 use std::alloc::Global;
@@ -10,7 +13,7 @@ use std::marker::Model;
 /// How many bytes are written at a time at the most.
 const PIECE: usize = 65_536;
 
-/// Writes report lines to a sink, piece by piece. It takes room for a piece at first, and more only where
+/// Writes report lines to a sink, piece by piece, or has them summed up. It takes room for a piece at first, and more only where
 /// more than half a piece is pushed before it passes on what it holds. A clause sees the bytes that it
 /// holds, which aren't written yet.
 #[derive(Drop)]
@@ -67,6 +70,53 @@ impl ReportWriter {
         ensures cause { HasCause (K.faults sink.old) (K.faults sink.new) result }
     {
         write_out(&mut self.buffer, &mut self.written, sink)
+    }
+
+    /// Passes what is held on to an outlet: to its sink, once it is half a piece or more, or into its totals.
+    pub fn pass_to<K: Sink>(
+        &mut self,
+        outlet: &mut Outlet,
+        sink: &mut K,
+    ) -> Result<(), SinkFailed>
+        ensures passes { Passes self.old self.new (got outlet.old (K.held sink.old)) (got outlet.new (K.held sink.new)) }
+        ensures cause { HasCause (K.faults sink.old) (K.faults sink.new) result }
+    {
+        match outlet {
+            Outlet::Sink => self.pass_on(sink),
+            Outlet::Totals(totals) => {
+                self.sum_up(totals);
+                Ok(())
+            }
+        }
+    }
+
+    /// Passes all that is held on to an outlet. Where that fails, what wasn't written stays held.
+    pub fn flush_to<K: Sink>(
+        &mut self,
+        outlet: &mut Outlet,
+        sink: &mut K,
+    ) -> Result<(), SinkFailed>
+        ensures ok { OnOk result (self.new ≡ []) }
+        ensures passes { Passes self.old self.new (got outlet.old (K.held sink.old)) (got outlet.new (K.held sink.new)) }
+        ensures cause { HasCause (K.faults sink.old) (K.faults sink.new) result }
+    {
+        match outlet {
+            Outlet::Sink => self.flush(sink),
+            Outlet::Totals(totals) => {
+                self.sum_up(totals);
+                Ok(())
+            }
+        }
+    }
+
+    // Adds what is held to totals, and holds nothing then.
+    fn sum_up(&mut self, totals: &mut Totals)
+        ensures none { self.new ≡ [] }
+        ensures totals { totals.new ≡ totals_after totals.old self.old }
+    {
+        totals.take(&self.buffer[self.written..]);
+        self.buffer.clear();
+        self.written = 0;
     }
 }
 

@@ -34,7 +34,7 @@ module _ (m : Machine) (known : Known) (has : HasKnown m known) where
   event-line (Write guest place width at values) is form event = (among guest (ltb-true guest known.guests is), form.1, form.4, form.5)
   event-line (Elsp guest engine second first) is form event = (among guest (grind (arith, nat_tests)), grind (arith, nat_tests))
   event-line (Turn engine count) is form event = (among 0 (grind (arith, nat_tests)), grind (arith, nat_tests))
-  event-line (Switch engine) is form event = absurd (cc)
+  event-line (Switch engine) is form event = (among 0 (grind (arith, nat_tests)), grind (arith, nat_tests))
   event-line (Move guest frame) is form event =
       let there : guest < known.guests = grind (arith, nat_tests) in
       (among guest there, subst (λ n. frame < n) (sym (has.sizes guest there)) (grind (arith, nat_tests)))
@@ -45,7 +45,6 @@ module _ (m : Machine) (known : Known) (has : HasKnown m known) where
 pub some-known : (known : Known) (line : Line) → accepts known line ≡ true → is_event_line line ≡ true → 0 < known.guests
 some-known known Blank is event = absurd (cc)
 some-known known (Guest guest) is event = absurd (cc)
-some-known known (Switch engine) is event = absurd (cc)
 some-known known End is event = absurd (cc)
 some-known known line is event = grind (arith, nat_tests)
 

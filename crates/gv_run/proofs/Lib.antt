@@ -6,8 +6,10 @@ pub mod Guests
 pub mod Journal
 pub mod Left
 pub mod Loops
+pub mod Making
 pub mod ManyTurns
 pub mod Memories
 pub mod Saying
 pub mod Streaming
+pub mod WholeScript
 pub mod Words

@@ -12,6 +12,7 @@ use Rattle.gv_text.specs.declared.script_line.Line.{Line}
 use Rattle.gv_gpu.specs.Change.{Ran, RanPart}
 use Rattle.gv_gpu.specs.Device.{Device}
 use Rattle.gv_lines.specs.Reader.{ReaderState, HandsOut, Relates, TellsNext, coming, new_reader, has_line_feed}
+use Rattle.gv_lines.specs.Outlet.{in_sink}
 use Rattle.gv_lines.specs.Writer.{PassesOn}
 use Rattle.gv_lines.specs.declared.next.Next.{Next}
 use Rattle.gv_lines.specs.declared.next.Next.TheVariants as nexts
@@ -30,7 +31,8 @@ use Rattle.gv_run.specs.Tied.{entries_in, machine_in}
 use Rattle.gv_run.specs.declared.stage.Stage.{Stage}
 use Rattle.gv_run.proofs.Ahead.{script_ahead, all_ahead, relates-some, ahead-ends, ahead-line, ahead-nothing, lines_of-line}
 use Rattle.gv_run.proofs.Left.{GoesOf, goes-whole, goes-part, script-goes, script-still, line-went, line-stops}
-use Rattle.gv_run.proofs.Saying.{front-longer, front-said, passes-part, passes-all}
+use Rattle.gv_run.proofs.Saying.{passes-all}
+use Rattle.gv_run.proofs.WholeScript.{said-front, same-ending, said-all, runs-lines, script-front}
 
 -- Of a source's bytes these were handed out, as whole lines, and run: what they said is held or written, and
 -- the script that is left is that of what is still to come. For the bytes alone, whatever came behind them,
@@ -54,39 +56,10 @@ pub if_some : {P Q : List ℕ → Type 0} (o : Option (List ℕ)) → ((x : List
 if_some None f h = tt
 if_some (Some x) f h = f x refl h
 
--- ---- what was said of a script
-
-module _ (start : Device) (all : Script) (m : Machine) (said : List ℕ) (d : Device) (left : Script) (kept : GoesOf new_machine [] start all m said d left) (held : List ℕ) (a b : Option (List ℕ)) (passed : PassesOn said held a b) where
-  -- a front of what is said in all
-  said-front : WritesFront (text_of (said_all (course_of new_machine all).came)) a b
-  said-front = subst (λ l. WritesFront l a b) kept.left.course.report
-      (front-longer said (text_of (said_all (course_of m left).came)) a b (passes-part said held a b passed))
-
-  -- nothing is left
-  module _ (ending : Ending) (is : left ≡ ends ending) where
-    same-ending : ending ≡ all.ending
-    same-ending = sym (ap (λ (s : Script). s.ending) is) ∙ kept.left.ending
-
-    said-all : said ≡ text_of (said_all (course_of new_machine all).came)
-    said-all = said_none said ∙ sym (ap (λ (s : Script). said ++ text_of (said_all (course_of m s).came)) is) ∙ kept.left.course.report
-
-    all-ran : kept.ran ≡ ran_all (course_of new_machine all).came
-    all-ran = sym (append-nil kept.ran) ∙ sym (ap (λ (s : Script). kept.ran ++ ran_all (course_of m s).came) is) ∙ kept.left.course.journal
-
-    pub runs-lines : (stage : Stage) → m ≡ machine_in d stage → RunsLines all ending start d stage held a b
-    runs-lines stage own = record {
-      ending = same-ending;
-      machine = sym own ∙ sym (ap (λ (s : Script). (course_of m s).left) is) ∙ kept.left.course.machine;
-      report = subst (λ l. PassesOn l held a b) said-all passed;
-      ran = subst (λ (l : List PrivateEntry). Ran start d (map entry_of l)) all-ran kept.done;
-    }
-
 -- a front of a report, from a front of what its lines said
 report-front : (bytes : List ℕ) (a b : Option (List ℕ)) → WritesFront (text_of (said_all (course_of new_machine (script_of bytes)).came)) a b → WritesFront (report_of bytes) a b
 report-front bytes a b front =
-    let c = course_of new_machine (script_of bytes) in
-    subst (λ l. WritesFront l a b) (sym (report_of-script bytes (script_of bytes) refl))
-    (front-said [] (said_all c.came) (ending_said (script_of bytes).ending c.left) a b front)
+    subst (λ l. WritesFront l a b) (sym (report_of-script bytes (script_of bytes) refl)) (script-front (script_of bytes) (in_sink a) (in_sink b) front)
 
 part-of : (bytes : List ℕ) (start d : Device) → RanPart start d (entries_in (course_of new_machine (script_of bytes)).came) → RanPart start d (map entry_of (commands_in bytes))
 part-of bytes start d part = subst (λ (ran : List PrivateEntry). RanPart start d (map entry_of ran)) (sym (commands_in-script bytes (script_of bytes) refl)) part
@@ -96,7 +69,7 @@ part-of bytes start d part = subst (λ (ran : List PrivateEntry). RanPart start 
 module _ {bytes gone : List ℕ} {start : Device} {old : Option (List ℕ)} {s : ReaderState} {source : Option (List ℕ)} {known : Known} {n : ℕ} {m : Machine} {held : List ℕ} {d : Device} {now : Option (List ℕ)} (kept : SoFar bytes gone start old s source known n m held d now) where
   pub begun : Begun bytes start d old now
   begun = record {
-    written = report-front bytes old now (said-front start (script_of bytes) m kept.said d _ kept.left held old now kept.passed);
+    written = report-front bytes old now (said-front start (script_of bytes) m kept.said d _ kept.left held (in_sink old) (in_sink now) kept.passed);
     ran = part-of bytes start d (goes-part (course_of new_machine (script_of bytes)) [] start _ kept.said d (script-goes new_machine m [] kept.said start d (script_of bytes) _ kept.left));
   }
 
@@ -128,21 +101,21 @@ module _ {bytes gone : List ℕ} {start : Device} {old : Option (List ℕ)} {s :
     told = relates-some (λ before after. TellsNext next before t.line after) s t source later kept.rest kept.there tells
 
     -- no line: the script ends
-    pub so_far-ends : (ending : Ending) → ending_at next n ≡ Some ending → (stage : Stage) → m ≡ machine_in d stage → RunsLines (script_of bytes) ending start d stage held old now
-    so_far-ends ending is stage own = runs-lines start (script_of bytes) m kept.said d _ kept.left held old now kept.passed ending
+    pub so_far-ends : (ending : Ending) → ending_at next n ≡ Some ending → (stage : Stage) → m ≡ machine_in d stage → RunsLines (script_of bytes) ending start d stage held (in_sink old) (in_sink now)
+    so_far-ends ending is stage own = runs-lines start (script_of bytes) m kept.said d _ kept.left held (in_sink old) (in_sink now) kept.passed ending
         (ahead-ends known n t.line next (coming s kept.rest) (coming t told.0) ending is told.2) stage own
 
     module _ (going : ending_at next n ≡ None) where
       ahead : script_ahead known n (coming s kept.rest) ≡ script_on known n (accepted known t.line) (λ known. script_ahead known (n + 1) (coming t told.0))
       ahead = ahead-line known n t.line next (coming s kept.rest) (coming t told.0) going told.2
 
-      pub so_far-refused : accepted known t.line ≡ None → (stage : Stage) → m ≡ machine_in d stage → RunsLines (script_of bytes) (BadScript n) start d stage held old now
-      so_far-refused is stage own = runs-lines start (script_of bytes) m kept.said d _ kept.left held old now kept.passed (BadScript n)
+      pub so_far-refused : accepted known t.line ≡ None → (stage : Stage) → m ≡ machine_in d stage → RunsLines (script_of bytes) (BadScript n) start d stage held (in_sink old) (in_sink now)
+      so_far-refused is stage own = runs-lines start (script_of bytes) m kept.said d _ kept.left held (in_sink old) (in_sink now) kept.passed (BadScript n)
           (left-refused known n t.line (λ known. script_ahead known (n + 1) (coming t told.0)) _ ahead is) stage own
 
       module _ (line : Line) (is : accepted known t.line ≡ Some line) where
-        pub so_far-ended : is_end line ≡ true → (stage : Stage) → m ≡ machine_in d stage → RunsLines (script_of bytes) Done start d stage held old now
-        so_far-ended last stage own = runs-lines start (script_of bytes) m kept.said d _ kept.left held old now kept.passed Done
+        pub so_far-ended : is_end line ≡ true → (stage : Stage) → m ≡ machine_in d stage → RunsLines (script_of bytes) Done start d stage held (in_sink old) (in_sink now)
+        so_far-ended last stage own = runs-lines start (script_of bytes) m kept.said d _ kept.left held (in_sink old) (in_sink now) kept.passed Done
             (left-ended known n t.line (λ known. script_ahead known (n + 1) (coming t told.0)) _ ahead line is last) stage own
 
         module _ (last : is_end line ≡ false) where
@@ -152,7 +125,7 @@ module _ {bytes gone : List ℕ} {start : Device} {old : Option (List ℕ)} {s :
           -- the line was begun
           pub so_far-began : (e : Device) → RanPart d e (entries_in (line_course m line).came) → Begun bytes start e old now
           so_far-began e part = record {
-            written = report-front bytes old now (said-front start (script_of bytes) m kept.said d _ kept.left held old now kept.passed);
+            written = report-front bytes old now (said-front start (script_of bytes) m kept.said d _ kept.left held (in_sink old) (in_sink now) kept.passed);
             ran = part-of bytes start e (line-stops new_machine m [] kept.said start d (script_of bytes) _ kept.left line _ line_first e part);
           }
 
@@ -169,16 +142,16 @@ module _ {bytes gone : List ℕ} {start : Device} {old : Option (List ℕ)} {s :
             left_after = line-went new_machine m [] kept.said start d (script_of bytes) _ kept.left line _ line_first after (kept.said ++ text_of (said_all (line_course m line).came)) e moved refl ran
 
             -- behind the last line, which has no line feed, nothing comes
-            pub so_far-last : next ≡ nexts.LastLine → (later_held : List ℕ) (b : Option (List ℕ)) → PassesOn told_now later_held now b → (stage : Stage) → after ≡ machine_in e stage → RunsLines (script_of bytes) (BadScript (n + 1)) start e stage later_held old b
+            pub so_far-last : next ≡ nexts.LastLine → (later_held : List ℕ) (b : Option (List ℕ)) → PassesOn told_now later_held now b → (stage : Stage) → after ≡ machine_in e stage → RunsLines (script_of bytes) (BadScript (n + 1)) start e stage later_held (in_sink old) (in_sink b)
             so_far-last is_last later_held b passes stage own =
                 let end = subst (λ x. TellsNext x (coming s kept.rest) t.line (coming t told.0)) is_last told.2 in
-                runs-lines start (script_of bytes) after (kept.said ++ words) e _ left_after later_held old b
+                runs-lines start (script_of bytes) after (kept.said ++ words) e _ left_after later_held (in_sink old) (in_sink b)
                 (PassesOn-trans (kept.said ++ words) told_now later_held old now b more_said passes) (BadScript (n + 1))
                 (ahead-nothing (known_after known line) (n + 1) t.line (coming s kept.rest) (coming t told.0) end) stage own
 
             pub so_far-began_last : (later_held : List ℕ) (b : Option (List ℕ)) → PassesOn told_now later_held now b → Begun bytes start e old b
             so_far-began_last later_held b passes = record {
-              written = report-front bytes old b (said-front start (script_of bytes) after (kept.said ++ words) e _ left_after later_held old b (PassesOn-trans (kept.said ++ words) told_now later_held old now b more_said passes));
+              written = report-front bytes old b (said-front start (script_of bytes) after (kept.said ++ words) e _ left_after later_held (in_sink old) (in_sink b) (PassesOn-trans (kept.said ++ words) told_now later_held old now b more_said passes));
               ran = part-of bytes start e (goes-part (course_of new_machine (script_of bytes)) [] start _ (kept.said ++ words) e (script-goes new_machine after [] (kept.said ++ words) start e (script_of bytes) _ left_after));
             }
 
@@ -213,12 +186,12 @@ module _ {bytes gone : List ℕ} {start : Device} {old : Option (List ℕ)} {s :
     so_far-fault first later b taken consumes is now_held empty passes =
         let all = script_in false (gone ++ t.held) in
         let left = kept.going t.held in
-        let written = passes-all kept.said old b (subst (λ l. PassesOn kept.said l old b) empty (PassesOn-trans kept.said held now_held old now b kept.passed passes)) in
-        let said = said-all start all m kept.said d _ left held old now kept.passed TooLong open_script in
+        let written = passes-all kept.said (in_sink old) (in_sink b) (subst (λ l. PassesOn kept.said l old b) empty (PassesOn-trans kept.said held now_held old now b kept.passed passes)) in
+        let said = said-all start all m kept.said d _ left held (in_sink old) (in_sink now) kept.passed TooLong open_script in
         record {
           taken = taken;
           source = consumes;
-          going = ap (λ l. (script_in false l).ending) is ∙ sym (same-ending start all m kept.said d _ left held old now kept.passed TooLong open_script);
+          going = ap (λ l. (script_in false l).ending) is ∙ sym (same-ending start all m kept.said d _ left held (in_sink old) (in_sink now) kept.passed TooLong open_script);
           report = subst (Appends old b) (said ∙ ap (λ l. text_of (said_all (course_of new_machine (script_in false l)).came)) (sym is)) written;
         }
 
@@ -282,15 +255,15 @@ module _ {start : Device} {old first : Option (List ℕ)} {s : ReaderState} {sou
       if_some first (λ bytes told so. so_far-fault so t none first later b all.piece all.source is now_held empty passes) kept.so_far
 
   module _ (t : ReaderState) (later : Option (List ℕ)) (next : Next) (tells : Relates (λ before after. TellsNext next before t.line after) s source t later) where
-    pub reading-ends : (ending : Ending) → ending_at next n ≡ Some ending → (stage : Stage) → m ≡ machine_in d stage → IfSome first (λ bytes. RunsLines (script_of bytes) ending start d stage held old now)
+    pub reading-ends : (ending : Ending) → ending_at next n ≡ Some ending → (stage : Stage) → m ≡ machine_in d stage → IfSome first (λ bytes. RunsLines (script_of bytes) ending start d stage held (in_sink old) (in_sink now))
     reading-ends ending is stage own = if_some first (λ bytes told so. so_far-ends so t later next tells ending is stage own) kept.so_far
 
     module _ (going : ending_at next n ≡ None) where
-      pub reading-refused : accepted known t.line ≡ None → (stage : Stage) → m ≡ machine_in d stage → IfSome first (λ bytes. RunsLines (script_of bytes) (BadScript n) start d stage held old now)
+      pub reading-refused : accepted known t.line ≡ None → (stage : Stage) → m ≡ machine_in d stage → IfSome first (λ bytes. RunsLines (script_of bytes) (BadScript n) start d stage held (in_sink old) (in_sink now))
       reading-refused is stage own = if_some first (λ bytes told so. so_far-refused so t later next tells going is stage own) kept.so_far
 
       module _ (line : Line) (is : accepted known t.line ≡ Some line) where
-        pub reading-ended : is_end line ≡ true → (stage : Stage) → m ≡ machine_in d stage → IfSome first (λ bytes. RunsLines (script_of bytes) Done start d stage held old now)
+        pub reading-ended : is_end line ≡ true → (stage : Stage) → m ≡ machine_in d stage → IfSome first (λ bytes. RunsLines (script_of bytes) Done start d stage held (in_sink old) (in_sink now))
         reading-ended last stage own = if_some first (λ bytes told so. so_far-ended so t later next tells going line is last stage own) kept.so_far
 
         module _ (last : is_end line ≡ false) where
@@ -298,7 +271,7 @@ module _ {start : Device} {old first : Option (List ℕ)} {s : ReaderState} {sou
           reading-began e part = if_some first (λ bytes told so. so_far-began so t later next tells going line is last e part) kept.so_far
 
           module _ (after : Machine) (told_now : List ℕ) (e : Device) (moved : after ≡ (line_course m line).left) (saying : told_now ≡ held ++ text_of (said_all (line_course m line).came)) (ran : Ran d e (entries_in (line_course m line).came)) where
-            pub reading-last : next ≡ nexts.LastLine → (later_held : List ℕ) (b : Option (List ℕ)) → PassesOn told_now later_held now b → (stage : Stage) → after ≡ machine_in e stage → IfSome first (λ bytes. RunsLines (script_of bytes) (BadScript (n + 1)) start e stage later_held old b)
+            pub reading-last : next ≡ nexts.LastLine → (later_held : List ℕ) (b : Option (List ℕ)) → PassesOn told_now later_held now b → (stage : Stage) → after ≡ machine_in e stage → IfSome first (λ bytes. RunsLines (script_of bytes) (BadScript (n + 1)) start e stage later_held (in_sink old) (in_sink b))
             reading-last is_last later_held b passes stage own = if_some first (λ bytes x so. so_far-last so t later next tells going line is last after told_now e moved saying ran is_last later_held b passes stage own) kept.so_far
 
             pub reading-began_last : (later_held : List ℕ) (b : Option (List ℕ)) → PassesOn told_now later_held now b → IfSome first (λ bytes. Begun bytes start e old b)

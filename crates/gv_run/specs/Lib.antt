@@ -1,4 +1,5 @@
 pub mod Headline
+pub mod Made
 pub mod Status
 pub mod Streamed
 pub mod Tied

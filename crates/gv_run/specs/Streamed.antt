@@ -7,7 +7,7 @@ use Rattle.gv_text.specs.declared.ending.Ending.{Ending}
 use Rattle.gv_text.specs.declared.ending.Ending.TheVariants.{Done, BadScript, TooLong}
 use Rattle.gv_gpu.specs.Change.{Ran, RanPart}
 use Rattle.gv_gpu.specs.Device.{Device}
-use Rattle.gv_lines.specs.Writer.{PassesOn}
+use Rattle.gv_lines.specs.Outlet.{Got, GetsFront, Passes, in_sink}
 use Rattle.gv_lines.specs.declared.next.Next.{Next}
 use Rattle.gv_lines.specs.declared.next.Next.TheVariants.{Line, LastLine, LongLine, End, PastLimit}
 use Rattle.gv_machine.specs.Machine.{new_machine}
@@ -19,7 +19,7 @@ use Rattle.gv_run.specs.declared.stage.Stage.{Stage}
 
 -- a front of a text was written
 abbrev pub WritesFront : List ℕ → Option (List ℕ) → Option (List ℕ) → Type 0
-WritesFront text old new = (n : ℕ) × Appends old new (take n text)
+WritesFront text old new = GetsFront text (in_sink old) (in_sink new)
 
 -- ---- where a source fails behind some bytes
 
@@ -46,11 +46,11 @@ pub record Begun (bytes : List ℕ) (start d : Device) (old new : Option (List �
   pub written : WritesFront (report_of bytes) old new
   pub ran : RanPart start d (map entry_of (commands_in bytes))
 
--- The lines of a script were run. Of what they said a front was written, and the rest is held.
-pub record RunsLines (all : Script) (how : Ending) (start d : Device) (stage : Stage) (held : List ℕ) (old new : Option (List ℕ)) : Type 0 where
+-- The lines of a script were run. Of what they said an outlet got a front, and the rest is held.
+pub record RunsLines (all : Script) (how : Ending) (start d : Device) (stage : Stage) (held : List ℕ) (old new : Got) : Type 0 where
   pub ending : how ≡ all.ending
   pub machine : machine_in d stage ≡ (course_of new_machine all).left
-  pub report : PassesOn (text_of (said_all (course_of new_machine all).came)) held old new
+  pub report : Passes (text_of (said_all (course_of new_machine all).came)) held old new
   pub ran : Ran start d (entries_in (course_of new_machine all).came)
 
 -- A script was run, and its report written.

@@ -1,4 +1,4 @@
-ghost use Rattle.std.specs.Prelude.{◌≡◌, ◌≢◌, ℕ, ◌+◌, ◌*◌, ◌%◌, ◌/◌, ◌^◌, ◌<◌, ◌≤◌, length, true, OnOk};
+ghost use Rattle.std.specs.Prelude.{◌≡◌, ◌≢◌, ℕ, ◌+◌, ◌*◌, ◌%◌, ◌/◌, ◌^◌, ◌<◌, ◌≤◌, length, OnOk};
 ghost use Rattle.std.specs.List.{AllByRecursion};
 ghost use Rattle.gv_types.specs.Places.{end_of};
 ghost use Rattle.gv_types.specs.Memory.{bytes_of};
@@ -10,7 +10,7 @@ ghost use Rattle.gv_machine.specs.Machine.{input_course, inputs_in, writes_of, p
 ghost use Rattle.gv_mediator.specs.Event.{IsEvent};
 ghost use Rattle.gv_mediator.specs.Tied.{machine_of};
 ghost use Rattle.gv_text.specs.Grammar.{value_limit};
-ghost use Rattle.gv_run.specs.Lines.{IsEventLine, event_of, names_guest};
+ghost use Rattle.gv_run.specs.Lines.{IsEventLine, event_of, IsToldAlone};
 ghost use Rattle.gv_run.specs.Tied.{Stands, Plays, entries_in};
 
 use crate::stopped::Stopped;
@@ -23,7 +23,7 @@ use gv_text::Line;
 use gv_types::{EngineId, Event, GuestId, Place, Width};
 use std::alloc::Global;
 
-// One event that names its guest.
+// One event that is told by itself.
 fn event<G: Gpu>(
     alloc: Global,
     gpu: &mut G,
@@ -33,7 +33,7 @@ fn event<G: Gpu>(
 ) -> Result<(), Stopped>
     requires stands { Stands (G.state gpu.old) mediator.old }
     requires event { IsEvent (machine_of (G.state gpu.old) mediator.old) event.now }
-    requires named { names_guest event.now ≡ true }
+    requires alone { IsToldAlone event.now }
     ensures stands { OnOk result (Stands (G.state gpu.new) mediator.new) }
     ensures done { OnOk result (Plays (input_course (machine_of (G.state gpu.old) mediator.old) (one_event event.now))
         (G.state gpu.old) report.old (G.state gpu.new) (machine_of (G.state gpu.new) mediator.new) report.new) }
@@ -220,6 +220,9 @@ fn event_of(line: &Line) -> Option<Event>
             place: *place,
             width: *width,
             at: *at,
+        }),
+        Line::Switch { engine } => Some(Event::Switch {
+            engine: EngineId(*engine),
         }),
         Line::Move { guest, frame } => Some(Event::Move {
             guest: GuestId(*guest),

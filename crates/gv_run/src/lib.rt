@@ -4,6 +4,7 @@
 mod call;
 mod ending;
 mod events;
+mod made;
 mod run;
 mod script;
 mod stage;

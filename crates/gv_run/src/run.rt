@@ -1,6 +1,6 @@
 ghost use Rattle.std.specs.Prelude.{◌≡◌, ◌≢◌, ℕ, ◌+◌, ◌<◌, ◌≤◌, ◌++◌, length, IfOk, OnOk, true, false, [], ◌∷◌};
-ghost use Rattle.std.specs.Io.KnownBytes.{Appends};
 ghost use Rattle.gv_outside.specs.Causes.{Rose};
+ghost use Rattle.gv_lines.specs.Outlet.{Gets, GetsFront, got};
 ghost use Rattle.gv_text.specs.Grammar.{IsForm};
 ghost use Rattle.gv_text.specs.Report.{text_of};
 ghost use Rattle.gv_text.specs.Script.{nothing_known, has_room, accepts, known_after, want_of};
@@ -11,7 +11,6 @@ ghost use Rattle.gv_machine.specs.Machine.{line_course};
 ghost use Rattle.gv_machine.specs.Report.{ending_said};
 ghost use Rattle.gv_mediator.specs.Laws.{HasMemories};
 ghost use Rattle.gv_run.specs.Lines.{is_event_line};
-ghost use Rattle.gv_run.specs.Streamed.{WritesFront};
 ghost use Rattle.gv_run.specs.Tied.{machine_in, entries_in};
 
 use crate::ending::tell_ending;
@@ -19,7 +18,7 @@ use crate::events::run_line;
 use crate::stage::Stage;
 use crate::stopped::Stopped;
 use gv_gpu::Gpu;
-use gv_lines::ReportWriter;
+use gv_lines::{Outlet, ReportWriter};
 use gv_mediator::{Guest, Mediator, devices_have_memories};
 use gv_outside::Sink;
 use gv_text::{Ending, Known, Line};
@@ -169,17 +168,19 @@ impl Run {
         Ok(())
     }
 
-    /// Tells what is said at the end, and writes all that was told.
+    /// Tells what is said at the end, and passes all that was told on to the outlet.
     pub fn finish<K: Sink, G: Gpu>(
         &mut self,
+        outlet: &mut Outlet,
         sink: &mut K,
         gpu: &G,
         ending: Ending,
     ) -> Result<(), Stopped>
         requires agrees { Agrees (G.state gpu.now) self.old.known self.old.stage }
         requires made { ending ≡ DoneThere → is_running self.old.stage ≡ true }
-        ensures told { OnOk result (Appends (K.held sink.old) (K.held sink.new) (self.old.report ++ text_of (ending_said ending (machine_in (G.state gpu.now) self.old.stage)))) }
-        ensures part { WritesFront (self.old.report ++ text_of (ending_said ending (machine_in (G.state gpu.now) self.old.stage))) (K.held sink.old) (K.held sink.new) }
+        ensures told { OnOk result (Gets (got outlet.old (K.held sink.old)) (got outlet.new (K.held sink.new)) (self.old.report ++ text_of (ending_said ending (machine_in (G.state gpu.now) self.old.stage)))) }
+        ensures part { GetsFront (self.old.report ++ text_of (ending_said ending (machine_in (G.state gpu.now) self.old.stage))) (got outlet.old (K.held sink.old)) (got outlet.new (K.held sink.new)) }
+        ensures empty { OnOk result (self.new.report ≡ []) }
         ensures later { K.faults sink.old ≤ K.faults sink.new }
         ensures cause { result ≡ Err Stopped.Write → Rose (K.faults sink.old) (K.faults sink.new) }
         ensures reads { result ≢ Err Stopped.Read }
@@ -188,8 +189,8 @@ impl Run {
     {
         devices_have_memories();
         let count = self.known.guests;
-        tell_ending(&mut self.report, sink, gpu, &self.stage, count, ending)?;
-        self.report.flush(sink)?;
+        tell_ending(&mut self.report, outlet, sink, gpu, &self.stage, count, ending)?;
+        self.report.flush_to(outlet, sink)?;
         Ok(())
     }
 }

@@ -1,5 +1,6 @@
 ghost use Rattle.std.specs.Prelude.{◌≡◌, ◌≢◌, ◌+◌, ◌^◌, ◌<◌, ◌≤◌, [], true, IfOk, OnOk, IfSome};
 ghost use Rattle.gv_outside.specs.Causes.{Rose};
+ghost use Rattle.gv_lines.specs.Outlet.{in_sink};
 ghost use Rattle.gv_lines.specs.Reader.{new_reader};
 ghost use Rattle.gv_gpu.specs.Device.{IsEmpty};
 ghost use Rattle.gv_text.specs.Script.{script_of, script_limit, nothing_known};
@@ -11,7 +12,7 @@ ghost use Rattle.gv_run.specs.Tied.{Agrees, is_first, is_running};
 use crate::run::Run;
 use crate::stopped::Stopped;
 use gv_gpu::Gpu;
-use gv_lines::{LineReader, Next};
+use gv_lines::{LineReader, Next, Outlet};
 use gv_outside::{Sink, Source};
 use gv_text::Ending;
 use gv_types::OutOfMemory;
@@ -58,7 +59,7 @@ fn run_lines<S: Source, K: Sink, G: Gpu>(
     ensures agrees { OnOk result (Agrees (G.state gpu.new) run.new.known run.new.stage) }
     ensures made { IfOk result (λ ending. ending ≡ DoneThere → is_running run.new.stage ≡ true) }
     ensures done { IfOk result (λ ending. IfSome (S.left source.old) (λ bytes.
-        RunsLines (script_of bytes) ending (G.state gpu.old) (G.state gpu.new) run.new.stage run.new.report (K.held sink.old) (K.held sink.new))) }
+        RunsLines (script_of bytes) ending (G.state gpu.old) (G.state gpu.new) run.new.stage run.new.report (in_sink (K.held sink.old)) (in_sink (K.held sink.new)))) }
     ensures fault { result ≡ Err Stopped.Read → IfSome (S.left source.old) (λ bytes.
         StopsAtFault (S.left source.old) (S.left source.new) (K.held sink.old) (K.held sink.new)) }
     ensures begun { IfSome (S.left source.old) (λ bytes. Begun bytes (G.state gpu.old) (G.state gpu.new) (K.held sink.old) (K.held sink.new)) }
@@ -117,6 +118,7 @@ pub fn run_script<S: Source, K: Sink, G: Gpu>(
     let mut run = Run::new(alloc)?;
     let mut reader = LineReader::new(alloc, LIMIT)?;
     let ending = run_lines(alloc, source, sink, gpu, &mut run, &mut reader)?;
-    run.finish(sink, gpu, ending)?;
+    let mut outlet = Outlet::Sink;
+    run.finish(&mut outlet, sink, gpu, ending)?;
     Ok(ending)
 }

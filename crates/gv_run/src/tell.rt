@@ -1,7 +1,7 @@
-ghost use Rattle.std.specs.Prelude.{◌≡◌, ◌≢◌, ◌<◌, ◌++◌, [], ◌∷◌, OnOk, IfSome, true, option_to_list};
+ghost use Rattle.std.specs.Prelude.{◌≡◌, ◌≢◌, ◌<◌, ◌++◌, [], ◌∷◌, OnOk, IfSome, option_to_list};
 ghost use Rattle.gv_text.specs.Report.{text_of, IsPrintable};
 ghost use Rattle.gv_machine.specs.Report.{irq_said, failsafe_said, answer_said, alarms_said, told, is_moved};
-ghost use Rattle.gv_run.specs.Lines.{names_guest};
+ghost use Rattle.gv_run.specs.Lines.{IsToldAlone};
 
 use gv_lines::ReportWriter;
 use gv_text::{ReportLine, print};
@@ -60,9 +60,9 @@ fn is_moved(answer: Answer) -> bool
     matches!(answer, Answer::Moved)
 }
 
-// The own line of an event that names its guest, by its answer.
+// The own line of an event that is told by itself, by its answer and the guest that is told.
 fn answer_line(event: &Event, guest: GuestId, answer: Answer) -> Option<ReportLine>
-    requires { names_guest event.now ≡ true }
+    requires { IsToldAlone event.now }
     ensures value { option_to_list result ≡ answer_said event.now guest answer }
     ensures printable { guest.0 < 8 → IfSome result IsPrintable }
 {
@@ -82,6 +82,10 @@ fn answer_line(event: &Event, guest: GuestId, answer: Answer) -> Option<ReportLi
             }),
             _ => None,
         },
+        Event::Switch { engine } => Some(ReportLine::Rota {
+            engine: *engine,
+            guest,
+        }),
         Event::Move { frame, .. } => Some(ReportLine::Move {
             guest,
             frame: *frame,
@@ -90,7 +94,6 @@ fn answer_line(event: &Event, guest: GuestId, answer: Answer) -> Option<ReportLi
         Event::Reset { .. } => Some(ReportLine::Reset { guest }),
         Event::Write { .. } => None,
         Event::Turn { .. } => None,
-        Event::Switch { .. } => None,
     }
 }
 
@@ -101,7 +104,7 @@ fn tell_answer(
     answer: Answer,
 ) -> Result<(), OutOfMemory>
     requires there { guest.0 < 8 }
-    requires named { names_guest event.now ≡ true }
+    requires alone { IsToldAlone event.now }
     ensures { OnOk result (report.new ≡ report.old ++ text_of (answer_said event.now guest answer)) }
 {
     match answer_line(event, guest, answer) {
@@ -110,14 +113,14 @@ fn tell_answer(
     }
 }
 
-/// Writes what is told of an event that names its guest.
+/// Writes what is told of an event by itself.
 pub(crate) fn tell_reply(
     report: &mut ReportWriter,
     event: &Event,
     reply: &Reply,
 ) -> Result<(), OutOfMemory>
     requires there { reply.now.guest.0 < 8 }
-    requires named { names_guest event.now ≡ true }
+    requires alone { IsToldAlone event.now }
     ensures { OnOk result (report.new ≡ report.old ++ text_of (told event.now reply.now)) }
 {
     tell_alarms(report, reply)?;

@@ -13,7 +13,7 @@ use Rattle.gv_types.specs.declared.event.Place.TheVariants as places
 use Rattle.gv_text.specs.Number.{◌>>=◌, check, number_below}
 use Rattle.gv_text.specs.declared.script_line.BadLine.{BadLine}
 use Rattle.gv_text.specs.declared.script_line.Line.{Line}
-use Rattle.gv_text.specs.declared.script_line.Line.TheVariants.{Blank, Guest, Read, Write, Elsp, Turn, Move, Reset, End}
+use Rattle.gv_text.specs.declared.script_line.Line.TheVariants.{Blank, Guest, Read, Write, Elsp, Turn, Switch, Move, Reset, End}
 
 -- the place and the width of each access that the first word of a line names
 abbrev pub read_access : List ℕ → Option (Place × Width)
@@ -94,6 +94,10 @@ turn_line e n = do
   count ← number_below 0x10001 n
   check (nat_lt 0 count) (Turn engine count)
 
+-- switch E
+abbrev pub switch_line : List ℕ → Option Line
+switch_line e = number_below 4 e >>= λ engine. Some (Switch engine)
+
 -- move G F
 abbrev pub move_line : List ℕ → List ℕ → Option Line
 move_line g f = do
@@ -109,7 +113,9 @@ abbrev pub one_word : List ℕ → Option Line
 one_word w = if bytes_eq w (codes "end") then Some End else None
 
 abbrev pub two_words : List ℕ → List ℕ → Option Line
-two_words w g = if bytes_eq w (codes "reset") then reset_line g else None
+two_words w x =
+    if bytes_eq w (codes "switch") then switch_line x
+    else (if bytes_eq w (codes "reset") then reset_line x else None)
 
 abbrev pub access_line : List ℕ → List ℕ → List ℕ → Option Line
 access_line w g a = read_access w >>= λ (place, width). read_line place width g a
@@ -163,6 +169,7 @@ IsForm (Write guest place width at values) = (guest < 8) × (at % bytes_of width
     × (at + bytes_of width * length values ≤ end_of place) × AllByRecursion (λ value. value < value_limit width) values
 IsForm (Elsp guest engine second first) = (guest < 8) × (engine < 4) × (second < 2 ^ 64) × (first < 2 ^ 64)
 IsForm (Turn engine count) = (engine < 4) × (0 < count) × (count ≤ 0x10000)
+IsForm (Switch engine) = engine < 4
 IsForm (Move guest frame) = (guest < 8) × (frame < 2 ^ 32)
 IsForm (Reset guest) = guest < 8
 IsForm line = Unit {0}

@@ -8,7 +8,7 @@ use Rattle.gv_text.specs.Number.{◌>>=◌, check}
 use Rattle.gv_text.specs.Grammar.{line_of}
 use Rattle.gv_text.specs.declared.known.Known.{Known}
 use Rattle.gv_text.specs.declared.script_line.Line.{Line}
-use Rattle.gv_text.specs.declared.script_line.Line.TheVariants.{Blank, Guest, Read, Write, Elsp, Turn, Move, Reset, End}
+use Rattle.gv_text.specs.declared.script_line.Line.TheVariants.{Blank, Guest, Read, Write, Elsp, Turn, Switch, Move, Reset, End}
 use Rattle.gv_text.specs.declared.script_line.Guest.{Guest as GuestForm}
 use Rattle.gv_text.specs.declared.ending.Ending.{Ending}
 use Rattle.gv_text.specs.declared.ending.Ending.TheVariants.{Done, BadScript, TooLong}
@@ -42,10 +42,10 @@ accepts known (Read guest place width at) = nat_lt guest known.guests
 accepts known (Write guest place width at values) = nat_lt guest known.guests
 accepts known (Elsp guest engine second first) = nat_lt guest known.guests && nat_lt engine 4
 accepts known (Turn engine count) = has_engine known engine
+accepts known (Switch engine) = has_engine known engine
 accepts known (Move guest frame) = nat_lt guest known.guests && nat_lt frame (slice_index known.sizes guest)
 accepts known (Reset guest) = nat_lt guest known.guests
 accepts known End = nat_lt 0 known.guests
-accepts known line = false
 
 abbrev pub known_after : Known → Line → Known
 known_after known Blank = known

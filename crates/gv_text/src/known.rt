@@ -17,7 +17,7 @@ pub struct Known {
 impl Known {
     ghost use Rattle.std.specs.Prelude.{◌≡◌, ℕ, ◌+◌, ◌<◌, ◌≤◌, true, Some, IfSome, nat_lt, slice_index, slice_set};
     ghost use Rattle.gv_text.specs.Grammar.{IsForm};
-    ghost use Rattle.gv_text.specs.Script.{nothing_known, has_room, accepts, accepted, known_after};
+    ghost use Rattle.gv_text.specs.Script.{nothing_known, has_room, has_engine, accepts, accepted, known_after};
 
     /// Before the first line.
     pub const NOTHING: Known = Known {
@@ -48,6 +48,13 @@ impl Known {
         }
     }
 
+    // Whether some guest is there to own the engine.
+    fn has_engine(&self, engine: u8) -> bool
+        ensures { result ≡ has_engine self.now engine }
+    {
+        self.guests > 0 && engine < 4
+    }
+
     // Whether a line is accepted there.
     fn accepts(&self, line: &Line) -> bool
         ensures { result ≡ accepts self.now line.now }
@@ -58,11 +65,11 @@ impl Known {
             Line::Read { guest, .. } => *guest < self.guests,
             Line::Write { guest, .. } => *guest < self.guests,
             Line::Elsp { guest, engine, .. } => *guest < self.guests && *engine < 4,
-            Line::Turn { engine, .. } => self.guests > 0 && *engine < 4,
+            Line::Turn { engine, .. } => self.has_engine(*engine),
+            Line::Switch { engine } => self.has_engine(*engine),
             Line::Move { guest, frame } => *guest < self.guests && self.has_frame(*guest, *frame),
             Line::Reset { guest } => *guest < self.guests,
             Line::End => self.guests > 0,
-            _ => false,
         }
     }
 

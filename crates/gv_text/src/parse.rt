@@ -1,5 +1,5 @@
 ghost use Rattle.std.specs.Prelude.{◌≡◌, ℕ, ◌+◌, ◌%◌, ◌^◌, ◌<◌, ◌≤◌, length, map, IfSome, IfOk, ok_or};
-ghost use Rattle.gv_text.specs.Grammar.{one_word, two_words, three_words, four_words, five_words, more_words, access_line, guest_line, elsp_line, turn_line, move_line, reset_line, read_line, write_line, line_of_words, words_of, line_of, says_nothing, bad_line, IsForm};
+ghost use Rattle.gv_text.specs.Grammar.{one_word, two_words, three_words, four_words, five_words, more_words, access_line, guest_line, elsp_line, turn_line, switch_line, move_line, reset_line, read_line, write_line, line_of_words, words_of, line_of, says_nothing, bad_line, IsForm};
 
 use crate::access::{highest_address, read_access, write_access};
 use crate::fields::{
@@ -90,7 +90,9 @@ fn of_two_words(word: &[u8], x: &[u8]) -> Option<Line>
     ensures value { result ≡ two_words word.now x.now }
     ensures form { IfSome result IsForm }
 {
-    if word == b"reset".as_slice() {
+    if word == b"switch".as_slice() {
+        switch(x)
+    } else if word == b"reset".as_slice() {
         reset(x)
     } else {
         None
@@ -189,6 +191,14 @@ fn turn(engine: &[u8], count: &[u8]) -> Option<Line>
         return None;
     }
     Some(Line::Turn { engine, count })
+}
+
+fn switch(engine: &[u8]) -> Option<Line>
+    ensures value { result ≡ switch_line engine.now }
+    ensures form { IfSome result IsForm }
+{
+    let engine = engine_number(engine)?;
+    Some(Line::Switch { engine })
 }
 
 fn move_frame(guest: &[u8], frame: &[u8]) -> Option<Line>

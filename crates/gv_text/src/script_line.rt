@@ -63,6 +63,7 @@ pub enum Line {
         engine: u8,
         count: u32,
     },
+    /// `switch E`: the engine goes to the next guest that has work on it.
     Switch {
         engine: u8,
     },

@@ -141,8 +141,8 @@ fn register_accesses(rt: HostRuntime) {
     );
 }
 
-/// Lines at every offset of the register range, submissions, turns and moves.
-const ACCEPTED: [&[u8]; 20] = [
+/// Lines at every offset of the register range, submissions, turns, switches and moves.
+const ACCEPTED: [&[u8]; 22] = [
     b"i4 0 0",
     b"i4 0 2230",
     b"i8 0 2370",
@@ -159,6 +159,8 @@ const ACCEPTED: [&[u8]; 20] = [
     b"o8 0 78818 4",
     b"turn 0 1",
     b"turn 3 10000",
+    b"switch 3",
+    b"switch 0000000000000001",
     b"elsp 0 1 0 500000119",
     b"elsp 7 3 ffffffffffffffff 1",
     b"move 0 0",
@@ -170,6 +172,12 @@ fn accepted_lines(rt: HostRuntime) {
     for text in ACCEPTED {
         assert!(rt; line(text).is_ok());
     }
+}
+
+#[test]
+fn switches(rt: HostRuntime) {
+    assert_eq!(rt; line(b"switch 0"), Ok(Line::Switch { engine: 0 }));
+    assert_eq!(rt; line(b"switch 3"), Ok(Line::Switch { engine: 3 }));
 }
 
 #[test]
@@ -212,7 +220,7 @@ fn the_longest_line(rt: HostRuntime) {
     assert_eq!(rt; line(&[b'#'; 257]), Err(BadLine));
 }
 
-const REFUSED: [&[u8]; 75] = [
+const REFUSED: [&[u8]; 79] = [
     b" ",
     b" #",
     b" end",
@@ -270,7 +278,11 @@ const REFUSED: [&[u8]; 75] = [
     b"b4 0 fffffffc 1 2",
     b"b8 0 fffffff8 1 2",
     b"b4 0 100000000 1",
-    b"switch 1",
+    b"switch",
+    b"switch 4",
+    b"switch 1 0",
+    b"switch  1",
+    b"Switch 1",
     b"turn 4 1",
     b"turn 1 0",
     b"turn 1 10001",
@@ -350,6 +362,8 @@ fn lines_in_their_order(rt: HostRuntime) {
     assert_eq!(rt; known_after(&guest, b"o4 0 800000 1"), Some(begun));
     assert_eq!(rt; known_after(&guest, b"reset 0"), Some(begun));
     assert_eq!(rt; known_after(&guest, b"reset 1"), None);
+    assert_eq!(rt; known_after(&guest, b"switch 3"), Some(begun));
+    assert_eq!(rt; known_after(&nothing, b"switch 0"), None);
     assert_eq!(rt; known_after(&guest, b"a4 1 0"), None);
     assert_eq!(rt; known_after(&begun, b"guest 1 0 0"), None);
 }

@@ -1,5 +1,6 @@
 //! `gvtbox run` reads a script from standard input, runs it over a device in memory, and writes the
-//! script's report to standard output. Its exit status says how that went.
+//! script's report to standard output. `gvtbox gen N` does the same with the script that the number N makes, and writes
+//! the summary of the report. The exit status says how that went.
 #![tactic(auto)]
 
 #[cfg(test)]
@@ -8,6 +9,10 @@ mod engines;
 mod layers;
 #[cfg(test)]
 mod rows;
+#[cfg(test)]
+mod summaries;
+#[cfg(test)]
+mod switches;
 
 use gv_program::exit_code;
 use std::process::ExitCode;

@@ -208,21 +208,6 @@ fn words_that_are_no_command(rt: HostRuntime) -> Result<(), Fail> {
     Ok(())
 }
 
-// `gen` has its grammar, and isn't served yet.
-#[test]
-fn a_script_from_a_number_is_refused(rt: HostRuntime) -> Result<(), Fail> {
-    let (status, report) = run(
-        rt.alloc(),
-        &["gen", "1"],
-        "guest 1 0 0\nend\n",
-        65_536,
-        65_536,
-    )?;
-    assert_eq!(rt; status, Status::BadWords);
-    assert_eq!(rt; report.len(), 0);
-    Ok(())
-}
-
 // Runs a script from a source that gives one byte a call and fails at one call, to a sink that fails at
 // one call, 0 being none.
 fn run_failing(

@@ -1,4 +1,5 @@
 use Rattle.std.proofs.Common.{◌<◌, ◌≤◌, ◌+◌, ◌++◌, length, drop, refl, arith}
+use Rattle.gv_lines.specs.Outlet.{got}
 use Rattle.gv_text.specs.Report.{text_of}
 use Rattle.gv_machine.specs.Machine.{device_at}
 use Rattle.gv_machine.specs.Report.{memory_said, memories_said}
@@ -11,7 +12,7 @@ pub loop-number-init : goal.loop-number-init
 loop-number-init g c =
     let m = (machine_of (g.G.Gpu.state c.args.gpu.now) c.args.mediator.now).devices in
     record {
-      saying = saying-all c.args.report.now (text_of (memories_said 0 m)) (g.K.Sink.held c.args.sink.now);
+      saying = saying-all c.args.report.now (text_of (memories_said 0 m)) (got c.args.outlet.now (g.K.Sink.held c.args.sink.now));
       later = omega arith;
     }
 
@@ -28,7 +29,7 @@ loop-number-preserved g c =
     let all = c.args.report.now ++ text_of (memories_said 0 m) in
     let is = memories-kept m n there kept.said (kept.said ++ text) all refl kept.whole in
     record {
-      saying = saying-more all left c.loop-number.report (held c.args.sink.now) (held c.loop-number.sink) kept text later is c.tell_memory.new.report (held c.tell_memory.new.sink) c.in_ok-tell_memory.ensures.told;
+      saying = saying-more all left c.loop-number.report (got c.args.outlet.now (held c.args.sink.now)) (got c.loop-number.outlet (held c.loop-number.sink)) kept text later is c.tell_memory.new.report (got c.tell_memory.new.outlet (held c.tell_memory.new.sink)) c.in_ok-tell_memory.ensures.told;
       later = omega (arith, c.tell_memory.ensures.later);
     }
 
@@ -44,7 +45,7 @@ returns-in_err-tell_memory-clause-part g c =
     let later = text_of (memories_said (n + 1) (drop (n + 1) m)) in
     let all = c.args.report.now ++ text_of (memories_said 0 m) in
     let is = memories-kept m n there kept.said (kept.said ++ text) all refl kept.whole in
-    saying-front all left c.loop-number.report (held c.args.sink.now) (held c.loop-number.sink) kept text later is (held c.tell_memory.new.sink) c.tell_memory.ensures.part
+    saying-front all left c.loop-number.report (got c.args.outlet.now (held c.args.sink.now)) (got c.loop-number.outlet (held c.loop-number.sink)) kept text later is (got c.tell_memory.new.outlet (held c.tell_memory.new.sink)) c.tell_memory.ensures.part
 
 pub returns-clause-told : goal.returns-clause-told
 returns-clause-told g c =
@@ -55,11 +56,11 @@ returns-clause-told g c =
     let past : length m ≤ n = omega (arith, c.requires.all) in
     let left = text_of (memories_said n (drop n m)) in
     let all = c.args.report.now ++ text_of (memories_said 0 m) in
-    saying-done all left c.loop-number.report (held c.args.sink.now) (held c.loop-number.sink) kept
+    saying-done all left c.loop-number.report (got c.args.outlet.now (held c.args.sink.now)) (got c.loop-number.outlet (held c.loop-number.sink)) kept
     (memories-done m n past kept.said all kept.whole)
 
 pub returns-clause-part : goal.returns-clause-part
 returns-clause-part g c =
     let m = (machine_of (g.G.Gpu.state c.args.gpu.now) c.args.mediator.now).devices in
     let held = g.K.Sink.held in
-    saying-part (c.args.report.now ++ text_of (memories_said 0 m)) _ c.loop-number.report (held c.args.sink.now) (held c.loop-number.sink) c.loop-number.invariant.saying
+    saying-part (c.args.report.now ++ text_of (memories_said 0 m)) _ c.loop-number.report (got c.args.outlet.now (held c.args.sink.now)) (got c.loop-number.outlet (held c.loop-number.sink)) c.loop-number.invariant.saying

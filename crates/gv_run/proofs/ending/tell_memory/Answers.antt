@@ -1,6 +1,6 @@
 use Rattle.std.proofs.Common.{length, arith, ◌<◌, ◌≤◌, ◌*◌, ◌+◌, ◌++◌, ◌∷◌, [], drop, refl, subst}
 use Rattle.std.specs.List.{concat}
-use Rattle.gv_lines.specs.Writer.{PassesOn}
+use Rattle.gv_lines.specs.Outlet.{Passes, got}
 use Rattle.gv_machine.specs.Machine.{device_at}
 use Rattle.gv_mediator.specs.Tied.{machine_of}
 use Rattle.gv_text.specs.Report.{text_of}
@@ -14,7 +14,7 @@ pub loop-number-init : goal.loop-number-init
 loop-number-init g c =
     let m = (device_at (machine_of (g.G.Gpu.state c.args.gpu.now) c.args.mediator.now).devices c.args.guest.0).memory in
     record {
-      saying = saying-all c.args.report.now (text_of (memory_said c.args.guest.0 m)) (g.K.Sink.held c.args.sink.now);
+      saying = saying-all c.args.report.now (text_of (memory_said c.args.guest.0 m)) (got c.args.outlet.now (g.K.Sink.held c.args.sink.now));
       later = omega arith;
     }
 
@@ -33,20 +33,20 @@ loop-number-preserved g c =
     let all = c.args.report.now ++ text_of (memory_said who m) in
     let is = words_kept m who n (whole-memory d (machine_of d c.args.mediator.now) who (c.devices_have_memories.ensures d c.args.mediator.now c.requires.stands.tied) c.requires.there) within
     kept.said (kept.said ++ text) all c.memory_word-value.result c.memory_word-value.ensures refl kept.whole in
-    let passes = subst (λ l. PassesOn l c.pass_on.new.self (held c.loop-number.sink) (held c.pass_on.new.sink)) c.in_ok-tell_word.ensures c.pass_on.ensures.passes in
+    let passes = subst (λ l. Passes l c.pass_to.new.self (got c.loop-number.outlet (held c.loop-number.sink)) (got c.pass_to.new.outlet (held c.pass_to.new.sink))) c.in_ok-tell_word.ensures c.pass_to.ensures.passes in
     record {
-      saying = saying-more all left c.loop-number.report (held c.args.sink.now) (held c.loop-number.sink) kept text later is c.pass_on.new.self (held c.pass_on.new.sink) passes;
-      later = omega (arith, c.pass_on.ensures.cause.later);
+      saying = saying-more all left c.loop-number.report (got c.args.outlet.now (held c.args.sink.now)) (got c.loop-number.outlet (held c.loop-number.sink)) kept text later is c.pass_to.new.self (got c.pass_to.new.outlet (held c.pass_to.new.sink)) passes;
+      later = omega (arith, c.pass_to.ensures.cause.later);
     }
 
 pub returns-in_err-tell_word-clause-part : goal.returns-in_err-tell_word-clause-part
 returns-in_err-tell_word-clause-part g c =
     let m = (device_at (machine_of (g.G.Gpu.state c.args.gpu.now) c.args.mediator.now).devices c.args.guest.0).memory in
     let held = g.K.Sink.held in
-    saying-part (c.args.report.now ++ text_of (memory_said c.args.guest.0 m)) _ c.loop-number.report (held c.args.sink.now) (held c.loop-number.sink) c.loop-number.invariant.saying
+    saying-part (c.args.report.now ++ text_of (memory_said c.args.guest.0 m)) _ c.loop-number.report (got c.args.outlet.now (held c.args.sink.now)) (got c.loop-number.outlet (held c.loop-number.sink)) c.loop-number.invariant.saying
 
-pub returns-in_err-pass_on-clause-part : goal.returns-in_err-pass_on-clause-part
-returns-in_err-pass_on-clause-part g c =
+pub returns-in_err-pass_to-clause-part : goal.returns-in_err-pass_to-clause-part
+returns-in_err-pass_to-clause-part g c =
     let d = g.G.Gpu.state c.args.gpu.now in
     let m = (device_at (machine_of d c.args.mediator.now).devices c.args.guest.0).memory in
     let held = g.K.Sink.held in
@@ -60,9 +60,9 @@ returns-in_err-pass_on-clause-part g c =
     let all = c.args.report.now ++ text_of (memory_said who m) in
     let is = words_kept m who n (whole-memory d (machine_of d c.args.mediator.now) who (c.devices_have_memories.ensures d c.args.mediator.now c.requires.stands.tied) c.requires.there) within
     kept.said (kept.said ++ text) all c.memory_word-value.result c.memory_word-value.ensures refl kept.whole in
-    let passes = subst (λ l. PassesOn l c.pass_on.new.self (held c.loop-number.sink) (held c.pass_on.new.sink)) c.in_ok-tell_word.ensures c.pass_on.ensures.passes in
-    saying-front all left c.loop-number.report (held c.args.sink.now) (held c.loop-number.sink) kept text later is (held c.pass_on.new.sink)
-    (passes-part (c.loop-number.report ++ text) c.pass_on.new.self (held c.loop-number.sink) (held c.pass_on.new.sink) passes)
+    let passes = subst (λ l. Passes l c.pass_to.new.self (got c.loop-number.outlet (held c.loop-number.sink)) (got c.pass_to.new.outlet (held c.pass_to.new.sink))) c.in_ok-tell_word.ensures c.pass_to.ensures.passes in
+    saying-front all left c.loop-number.report (got c.args.outlet.now (held c.args.sink.now)) (got c.loop-number.outlet (held c.loop-number.sink)) kept text later is (got c.pass_to.new.outlet (held c.pass_to.new.sink))
+    (passes-part (c.loop-number.report ++ text) c.pass_to.new.self (got c.loop-number.outlet (held c.loop-number.sink)) (got c.pass_to.new.outlet (held c.pass_to.new.sink)) passes)
 
 pub returns-clause-told : goal.returns-clause-told
 returns-clause-told g c =
@@ -75,11 +75,11 @@ returns-clause-told g c =
     let kept = c.loop-number.invariant.saying in
     let left = text_of (words_said who (n * 8) (drop n (concat m))) in
     let all = c.args.report.now ++ text_of (memory_said who m) in
-    saying-done all left c.loop-number.report (held c.args.sink.now) (held c.loop-number.sink) kept
+    saying-done all left c.loop-number.report (got c.args.outlet.now (held c.args.sink.now)) (got c.loop-number.outlet (held c.loop-number.sink)) kept
     (words_done m who n (whole-memory d (machine_of d c.args.mediator.now) who (c.devices_have_memories.ensures d c.args.mediator.now c.requires.stands.tied) c.requires.there) past kept.said all kept.whole)
 
 pub returns-clause-part : goal.returns-clause-part
 returns-clause-part g c =
     let m = (device_at (machine_of (g.G.Gpu.state c.args.gpu.now) c.args.mediator.now).devices c.args.guest.0).memory in
     let held = g.K.Sink.held in
-    saying-part (c.args.report.now ++ text_of (memory_said c.args.guest.0 m)) _ c.loop-number.report (held c.args.sink.now) (held c.loop-number.sink) c.loop-number.invariant.saying
+    saying-part (c.args.report.now ++ text_of (memory_said c.args.guest.0 m)) _ c.loop-number.report (got c.args.outlet.now (held c.args.sink.now)) (got c.loop-number.outlet (held c.loop-number.sink)) c.loop-number.invariant.saying

@@ -1,4 +1,5 @@
 use Rattle.std.proofs.Common.{◌*◌, ◌≤◌, ◌++◌, drop}
+use Rattle.gv_lines.specs.Outlet.{got}
 use Rattle.std.specs.List.{concat}
 use Rattle.gv_machine.specs.Machine.{device_at}
 use Rattle.gv_mediator.specs.Tied.{machine_of}
@@ -14,6 +15,6 @@ invariant-loop-number g l =
     let held = g.K.Sink.held in
     let faults = g.K.Sink.faults in
     record {
-      saying : Saying (l.fn.report ++ text_of (memory_said l.guest.0 memory)) (text_of (words_said l.guest.0 (l.number * 8) (drop l.number (concat memory)))) l.report (held l.fn.sink) (held l.sink);
+      saying : Saying (l.fn.report ++ text_of (memory_said l.guest.0 memory)) (text_of (words_said l.guest.0 (l.number * 8) (drop l.number (concat memory)))) l.report (got l.fn.outlet (held l.fn.sink)) (got l.outlet (held l.sink));
       later : faults l.fn.sink ≤ faults l.sink;
     }

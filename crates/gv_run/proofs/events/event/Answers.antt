@@ -1,11 +1,10 @@
-use Rattle.std.proofs.Common.{◌<◌, [], ◌∷◌, ◌++◌, List, ap, sym, ◌∙◌, subst, arith}
+use Rattle.std.proofs.Common.{◌<◌, [], ◌∷◌, ◌++◌, List, ap, sym, ◌∙◌, arith}
 use Rattle.gv_private.specs.Inputs.{event}
-use Rattle.gv_machine.specs.Machine.{device_at}
 use Rattle.gv_text.specs.Report.{text_of}
 use Rattle.gv_text.specs.declared.report_line.ReportLine.{ReportLine}
 use Rattle.gv_mediator.specs.Tied.{machine_of}
 use Rattle.gv_run.proofs.Left.{ran-before, ran-whole}
-use Rattle.gv_run.proofs.OneEvent.{stands-played, event-below, some-there, reply-there, guest-named, event-left, event-ran, reply-is, event-said}
+use Rattle.gv_run.proofs.OneEvent.{stands-played, some-guest, event-below, comes, comes-ran}
 use Rattle.gv_run.proofs.events.event.Goals as goal
 
 pub returns-in_err-reply-clause-part : goal.returns-in_err-reply-clause-part
@@ -13,41 +12,45 @@ returns-in_err-reply-clause-part g c = ran-before c.in_err-reply.ensures.stopped
 
 pub tell_reply-requires-clause-there : goal.tell_reply-requires-clause-there
 tell_reply-requires-clause-there g c =
-    let m = machine_of (g.G.Gpu.state c.args.gpu.now) c.args.mediator.now in
-    let one = c.args.event.now in
-    let named = guest-named m one c.requires.named in
-    let there = reply-there m (device_at m.devices named.0) one c.requires.event c.requires.named in
-    let is = reply-is m one named.0 named.1 c.in_ok-reply.reply c.in_ok-reply.ensures.reply in
-    let eight = c.requires.stands.eight in
-    subst (λ r. r < 8) (ap (λ r. r.guest.0) is) (omega arith)
+    let d = g.G.Gpu.state c.args.gpu.now in
+    let stands = c.requires.stands in
+    let came = comes (machine_of d c.args.mediator.now) c.args.event.now stands.whole (some-guest d c.args.mediator.now stands.tied) c.requires.event c.requires.alone in
+    let there = came.there c.in_ok-reply.reply c.in_ok-reply.ensures.reply in
+    let eight = stands.eight in
+    omega arith
 
 pub returns-in_err-tell_reply-clause-part : goal.returns-in_err-tell_reply-clause-part
 returns-in_err-tell_reply-clause-part g c =
-    let m = machine_of (g.G.Gpu.state c.args.gpu.now) c.args.mediator.now in
-    let named = guest-named m c.args.event.now c.requires.named in
-    ran-whole (event-ran m c.args.event.now named.0 named.1 c.in_ok-reply.ensures.ran)
+    let d = g.G.Gpu.state c.args.gpu.now in
+    let m = machine_of d c.args.mediator.now in
+    let stands = c.requires.stands in
+    let came = comes m c.args.event.now stands.whole (some-guest d c.args.mediator.now stands.tied) c.requires.event c.requires.alone in
+    ran-whole (comes-ran m c.args.event.now came c.in_ok-reply.ensures.ran)
 
 pub returns-clause-stands : goal.returns-clause-stands
 returns-clause-stands g c =
     let d = g.G.Gpu.state c.args.gpu.now in
     let m = machine_of d c.args.mediator.now in
     let one = c.args.event.now in
-    let named = guest-named m one c.requires.named in
-    stands-played d _ c.args.mediator.now c.event.new.self (event one ∷ []) c.requires.stands
-    (event-below m one c.requires.event (some-there m one c.requires.event c.requires.named), tt)
+    let stands = c.requires.stands in
+    let some = some-guest d c.args.mediator.now stands.tied in
+    let came = comes m one stands.whole some c.requires.event c.requires.alone in
+    stands-played d _ c.args.mediator.now c.event.new.self (event one ∷ []) stands
+    (event-below m one c.requires.event some, tt)
     c.in_ok-reply.ensures.tied c.in_ok-reply.ensures.stops
-    (c.in_ok-reply.ensures.machine ∙ event-left m one named.0 named.1)
+    (c.in_ok-reply.ensures.machine ∙ came.left)
 
 pub returns-clause-done : goal.returns-clause-done
 returns-clause-done g c =
     let d = g.G.Gpu.state c.args.gpu.now in
     let m = machine_of d c.args.mediator.now in
     let one = c.args.event.now in
-    let named = guest-named m one c.requires.named in
+    let stands = c.requires.stands in
+    let came = comes m one stands.whole (some-guest d c.args.mediator.now stands.tied) c.requires.event c.requires.alone in
     record {
-      machine = c.in_ok-reply.ensures.machine ∙ event-left m one named.0 named.1;
-      report = c.in_ok-tell_reply.ensures ∙ ap (λ (lines : List ReportLine). c.args.report.now ++ text_of lines) (sym (event-said m one named.0 named.1 c.in_ok-reply.reply c.in_ok-reply.ensures.reply));
-      ran = event-ran m one named.0 named.1 c.in_ok-reply.ensures.ran;
+      machine = c.in_ok-reply.ensures.machine ∙ came.left;
+      report = c.in_ok-tell_reply.ensures ∙ ap (λ (lines : List ReportLine). c.args.report.now ++ text_of lines) (sym (came.said c.in_ok-reply.reply c.in_ok-reply.ensures.reply));
+      ran = comes-ran m one came c.in_ok-reply.ensures.ran;
     }
 
 pub returns-clause-part : goal.returns-clause-part

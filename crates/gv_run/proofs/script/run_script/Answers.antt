@@ -20,12 +20,12 @@ run_lines-requires-clause-agrees g c = agrees-first (g.G.Gpu.state c.args.gpu.no
 
 pub returns-in_err-finish-clause-begun : goal.returns-in_err-finish-clause-begun
 returns-in_err-finish-clause-begun g c =
-    if_some (g.S.Source.left c.args.source.now) (λ bytes is lines. finish-begun bytes lines (g.K.Sink.held c.finish.new.sink) c.finish.ensures.part) c.in_ok-ending.ensures.done
+    if_some (g.S.Source.left c.args.source.now) (λ bytes is lines. finish-begun bytes lines c.finish.new.outlet (g.K.Sink.held c.finish.new.sink) c.finish.ensures.part) c.in_ok-ending.ensures.done
 
 pub returns-clause-finishes : goal.returns-clause-finishes
 returns-clause-finishes g c =
-    if_some (g.S.Source.left c.args.source.now) (λ bytes is lines. finishes bytes lines (g.K.Sink.held c.finish.new.sink) c.finish.ensures.memories c.in_ok-finish.ensures.told) c.in_ok-ending.ensures.done
+    if_some (g.S.Source.left c.args.source.now) (λ bytes is lines. finishes bytes lines c.finish.new.outlet (g.K.Sink.held c.finish.new.sink) c.finish.ensures.memories c.in_ok-finish.ensures.told) c.in_ok-ending.ensures.done
 
 pub returns-clause-begun : goal.returns-clause-begun
 returns-clause-begun g c =
-    if_some (g.S.Source.left c.args.source.now) (λ bytes is lines. finish-begun bytes lines (g.K.Sink.held c.finish.new.sink) c.finish.ensures.part) c.in_ok-ending.ensures.done
+    if_some (g.S.Source.left c.args.source.now) (λ bytes is lines. finish-begun bytes lines c.finish.new.outlet (g.K.Sink.held c.finish.new.sink) c.finish.ensures.part) c.in_ok-ending.ensures.done
