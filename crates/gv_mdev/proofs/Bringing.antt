@@ -1,10 +1,9 @@
 -- What a guest has of an engine is brought.
-use Rattle.std.proofs.Common.{◌≡◌, ◌≢◌, ℕ, ◌+◌, ◌<◌, ◌≤◌, ◌==◌, ◌&&◌, Bool, true, false, Option, None, Some, List, [], cond, eqb, ltb, length, get_or, if◌then◌else◌, refl, sym, ap, ◌∙◌, subst, arith}
+use Rattle.std.proofs.Common.{◌≡◌, ℕ, ◌<◌, ◌≤◌, ◌==◌, Bool, true, false, Option, None, Some, List, cond, ltb, length, get_or, refl, sym, ◌∙◌, subst, arith}
 use Rattle.std.specs.Prelude.{Result, Ok, Err, OnOk, OnErr}
-use Rattle.std.proofs.lemmas.Bool.{eq-eqb, false≢true}
+use Rattle.std.proofs.lemmas.Bool.{false≢true}
 use Rattle.std.proofs.lemmas.Bool.Decides.{nat_tests}
 use Rattle.std.proofs.lemmas.List.{get_or_past}
-use Rattle.gv_types.specs.Maps.{put}
 use Rattle.gv_element.specs.Works.{Held, Works, WorksWith, left_of}
 use Rattle.gv_element.proofs.Away.{submitted-works}
 use Rattle.gv_element.proofs.Staying.{work-stays}
@@ -23,7 +22,7 @@ use Rattle.gv_mdev.specs.Mdev.{engine_at}
 use Rattle.gv_mdev.specs.Standing.{Holds, StandsOn}
 use Rattle.gv_mdev.specs.declared.mdev.Mdev.{Mdev}
 use Rattle.gv_mdev.proofs.Exchanging.{GoesOn, exchanges, part_of}
-use Rattle.gv_mdev.proofs.General.{put-own, put-other, not-equal, same-number}
+use Rattle.gv_mdev.proofs.General.{put-own}
 use Rattle.gv_mdev.proofs.PuttingAway.{hidden, owning-other, owning-own}
 
 -- ---- the registers

@@ -10,7 +10,7 @@ use Rattle.gv_entry.specs.Ranges.{InParts}
 use Rattle.gv_entry.specs.SameTables.{has}
 use Rattle.gv_gpu.specs.Change.{Leaves}
 use Rattle.gv_gpu.specs.Device.{Device, Loaded}
-use Rattle.gv_gpu.specs.Part.{Apart, Part, Within, context_part, engine_part, first_of_window, guest_part, is_frame_of, is_named, is_page_of, is_shadow_of, outside}
+use Rattle.gv_gpu.specs.Part.{Apart, Part, Within, context_part, engine_part, first_of_window, guest_part, is_named, is_page_of, is_shadow_of, outside}
 use Rattle.gv_gpu.proofs.Changes.{leaves-outside}
 use Rattle.gv_gpu.proofs.Parts.{outside-widen}
 use Rattle.gv_gpu.proofs.Seen.{general-others, global-others, loaded-others}
@@ -24,10 +24,10 @@ use Rattle.gv_sctx.specs.Context.{shadow_label}
 use Rattle.gv_sppgtt.specs.State.{own_in}
 use Rattle.gv_sring.specs.Window.{WindowIsAbsent, page_at}
 use Rattle.gv_turn.specs.Owned.{OwnsLeft}
-use Rattle.gv_mdev.specs.Changes.{LiveMoves, own_live}
+use Rattle.gv_mdev.specs.Changes.{own_live}
 use Rattle.gv_mdev.specs.Exchange.{Exchanges}
 use Rattle.gv_mdev.specs.Mdev.{element_in, engine_at, engine_in, engines_of, general_in, private_of}
-use Rattle.gv_mdev.specs.Standing.{Holds, IsAway, StandsAtWork, StandsIdle, StandsOn}
+use Rattle.gv_mdev.specs.Standing.{Holds, IsAway, StandsAtWork, StandsOn}
 use Rattle.gv_mdev.specs.declared.mdev.Mdev.{Mdev}
 use Rattle.gv_mdev.proofs.Engines.{none-past}
 use Rattle.gv_mdev.proofs.General.{not-equal, other-number, same-number}

@@ -8,16 +8,16 @@ use Rattle.gv_element.specs.Works.{Held}
 use Rattle.gv_element.proofs.Beside.{stay-apart}
 use Rattle.gv_entry.specs.Ranges.{InParts}
 use Rattle.gv_gpu.specs.Device.{Device, counted, with_faults}
-use Rattle.gv_gpu.specs.Part.{Part, guest_part, outside}
+use Rattle.gv_gpu.specs.Part.{guest_part, outside}
 use Rattle.gv_gtt.specs.Changes.{Changes}
-use Rattle.gv_gtt.specs.Gtt.{frames_of, gtt_part, memory_of, number_of, ranges_of}
+use Rattle.gv_gtt.specs.Gtt.{gtt_part, memory_of, number_of, ranges_of}
 use Rattle.gv_gtt.specs.Standing.{Stands}
 use Rattle.gv_gtt.proofs.Others.{changes_stay_inside}
 use Rattle.gv_mmio.specs.Mmio.{guest_of, ranges_of as mmio_ranges}
 use Rattle.gv_private.specs.Device.{fails, reset_device}
 use Rattle.gv_mdev.specs.Changes.{Keeps, Makes, MayFail, Stops, own_live}
 use Rattle.gv_mdev.specs.Mdev.{engine_at, private_of}
-use Rattle.gv_mdev.specs.Standing.{Holds, HasWindow, Occupies, OccupiesOn, StandsOn}
+use Rattle.gv_mdev.specs.Standing.{Holds, Occupies, OccupiesOn, StandsOn}
 use Rattle.gv_mdev.specs.declared.mdev.Mdev.{Mdev}
 use Rattle.gv_mdev.specs.declared.notice.Notice.{Notice}
 use Rattle.gv_mdev.proofs.Kept.{engine-same, idle-on, works-on}

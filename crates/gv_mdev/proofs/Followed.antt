@@ -1,5 +1,5 @@
 -- The shared device follows a guest's own tables.
-use Rattle.std.proofs.Common.{◌≡◌, ℕ, ◌<◌, Bool, true, Option, None, Some, length, refl, sym, ◌∙◌, subst}
+use Rattle.std.proofs.Common.{◌≡◌, ℕ, ◌<◌, true, Option, None, Some, refl, ◌∙◌, subst}
 use Rattle.gv_element.specs.Works.{Held}
 use Rattle.gv_entry.specs.Ranges.{owns_page}
 use Rattle.gv_gpu.specs.Device.{Device}
@@ -13,7 +13,7 @@ use Rattle.gv_sppgtt.proofs.AtRest.{serving_tables_chain, serving_tables_count}
 use Rattle.gv_sppgtt.proofs.Meaning.{serving_tables_are_live}
 use Rattle.gv_mdev.specs.Followed.{ElementsAreLoaded, IsLoadedFor, TablesAreFollowed}
 use Rattle.gv_mdev.specs.Mdev.{engine_at, private_of}
-use Rattle.gv_mdev.specs.Standing.{Holds, StandsOn}
+use Rattle.gv_mdev.specs.Standing.{StandsOn}
 use Rattle.gv_mdev.specs.declared.mdev.Mdev.{Mdev}
 use Rattle.gv_mdev.proofs.Working.{over-private}
 

@@ -1,5 +1,5 @@
 -- What a guest has of an engine is put away.
-use Rattle.std.proofs.Common.{◌≡◌, ◌≢◌, ℕ, ◌+◌, ◌<◌, ◌≤◌, ◌==◌, ◌&&◌, Bool, true, false, Option, None, Some, List, [], cond, eqb, ltb, length, get_or, slice_index_or, if◌then◌else◌, refl, sym, ap, ◌∙◌, subst, arith}
+use Rattle.std.proofs.Common.{◌≡◌, ◌≢◌, ℕ, ◌<◌, ◌≤◌, ◌==◌, ◌&&◌, Bool, true, false, Option, None, Some, List, [], cond, eqb, ltb, length, get_or, if◌then◌else◌, refl, sym, ap, ◌∙◌, subst, arith}
 use Rattle.std.proofs.lemmas.Bool.{eq-eqb, false≢true}
 use Rattle.std.proofs.lemmas.Bool.Decides.{nat_tests}
 use Rattle.std.proofs.lemmas.List.{get_or_past}
@@ -19,9 +19,8 @@ use Rattle.gv_sring.proofs.Named.{shadow-own}
 use Rattle.gv_sring.proofs.WindowReads.{shows-image}
 use Rattle.gv_switch.specs.Exchange.{AreRegisters}
 use Rattle.gv_mdev.specs.Exchange.{Exchanges, HasSixteen, owning}
-use Rattle.gv_mdev.specs.Mdev.{engine_at, general_in}
-use Rattle.gv_mdev.specs.Standing.{Holds, StandsAtWork, StandsIdle, StandsOn}
-use Rattle.gv_mdev.specs.declared.engine.Engine.{Engine}
+use Rattle.gv_mdev.specs.Mdev.{engine_at}
+use Rattle.gv_mdev.specs.Standing.{Holds, StandsOn}
 use Rattle.gv_mdev.specs.declared.mdev.Mdev.{Mdev}
 use Rattle.gv_mdev.proofs.Exchanging.{GoesOn, exchanges, part_of}
 use Rattle.gv_mdev.proofs.General.{not-equal, same-number}

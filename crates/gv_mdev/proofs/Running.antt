@@ -9,7 +9,7 @@ use Rattle.gv_element.proofs.Going.{goes-on, moves-short, moves-small}
 use Rattle.gv_element.proofs.Staying.{work-stays}
 use Rattle.gv_entry.specs.SameTables.{SameTables}
 use Rattle.gv_gpu.specs.Device.{Device, Loaded}
-use Rattle.gv_gpu.specs.Part.{first_of_window, guest_part, outside, step_part}
+use Rattle.gv_gpu.specs.Part.{first_of_window, guest_part, step_part}
 use Rattle.gv_gpu.proofs.Guests.{step-within}
 use Rattle.gv_gpu.proofs.Parts.{outside-widen}
 use Rattle.gv_gpu.proofs.Seen.{general-others, loaded-others}

@@ -1,6 +1,5 @@
 -- What two states of a guest's device have in common, and live pages over calls one after another.
-use Rattle.std.proofs.Common.{◌≡◌, ◌≢◌, ℕ, ◌+◌, ◌≤◌, Some, length, sym, ◌∙◌, refl, subst, arith}
-use Rattle.gv_element.specs.Works.{Held}
+use Rattle.std.proofs.Common.{◌≡◌, ℕ, ◌+◌, ◌≤◌, length, sym, ◌∙◌, subst, arith}
 use Rattle.gv_gpu.specs.Device.{Device}
 use Rattle.gv_gtt.specs.Gtt.{frames_of, nodes_in, own_pages}
 use Rattle.gv_sppgtt.specs.Grown.{count_of}

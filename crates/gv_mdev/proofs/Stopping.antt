@@ -1,5 +1,5 @@
 -- Calls that stopped.
-use Rattle.std.proofs.Common.{◌≡◌, ℕ, Bool, Result, Ok, Err, false, true, sym, ◌∙◌, subst}
+use Rattle.std.proofs.Common.{◌≡◌, ℕ, Bool, Result, Ok, Err, sym, ◌∙◌, subst}
 use Rattle.std.specs.Prelude.{IfOk, IfErr, OnOk, OnErr, IsErr}
 use Rattle.std.proofs.lemmas.Bool.{false≢true}
 use Rattle.gv_types.specs.declared.reply.Stop.{Stop}

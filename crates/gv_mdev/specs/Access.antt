@@ -6,7 +6,6 @@ use Rattle.gv_types.specs.declared.event.Event.{Event}
 use Rattle.gv_types.specs.declared.event.Place.{Place}
 use Rattle.gv_types.specs.declared.event.Place.TheVariants as places
 use Rattle.gv_types.specs.declared.event.Event.TheVariants.{Read, Write, Move}
-use Rattle.gv_types.specs.declared.ids.GuestId.{GuestId}
 use Rattle.gv_types.specs.declared.reply.Answer.{Answer}
 use Rattle.gv_types.specs.declared.reply.Answer.TheVariants as answers
 use Rattle.gv_types.specs.declared.reply.Reason.{Reason}

@@ -5,7 +5,6 @@ use Rattle.gv_types.specs.declared.ids.GuestId.{GuestId}
 use Rattle.gv_types.specs.declared.reply.Answer.{Answer}
 use Rattle.gv_types.specs.declared.reply.Outcome.{Outcome}
 use Rattle.gv_types.specs.declared.reply.Reply.{Reply}
-use Rattle.gv_types.specs.declared.reply.Reason.{Reason}
 use Rattle.gv_types.specs.declared.reply.Stop.{Stop}
 use Rattle.gv_types.specs.declared.reply.Stop.TheVariants.{DeviceFault}
 use Rattle.gv_element.specs.Works.{Held}

@@ -2,7 +2,7 @@
 use Rattle.std.specs.Prelude.{◌≡◌, ℕ, ◌+◌, ◌<◌, Bool, true, Option, None, Some, length, slice_index}
 use Rattle.gv_element.specs.Works.{Held, context_now}
 use Rattle.gv_entry.specs.Ranges.{owns_page}
-use Rattle.gv_gpu.specs.Device.{Device, Loaded}
+use Rattle.gv_gpu.specs.Device.{Device}
 use Rattle.gv_gtt.specs.Gtt.{frames_of, leaves_of, nodes_in, number_of}
 use Rattle.gv_private.specs.Device.{PrivateDevice}
 use Rattle.gv_private.specs.Grants.{page_grant}

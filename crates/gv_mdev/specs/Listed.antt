@@ -1,5 +1,5 @@
 -- At which writes the device may fault, and which may lack memory.
-use Rattle.std.specs.Prelude.{◌≡◌, ℕ, ◌+◌, ◌/◌, ◌%◌, ◌^◌, ◌⊎◌, Bool, true, false, IsSome}
+use Rattle.std.specs.Prelude.{◌≡◌, ℕ, ◌+◌, ◌/◌, ◌⊎◌, true, IsSome}
 use Rattle.gv_types.specs.declared.event.Place.{Place}
 use Rattle.gv_types.specs.declared.event.Place.TheVariants.{Memory, Registers, Aperture}
 use Rattle.gv_types.specs.declared.event.Width.{Width}

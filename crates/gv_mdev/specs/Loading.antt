@@ -1,5 +1,5 @@
 -- A load, step by step.
-use Rattle.std.specs.Prelude.{◌≡◌, ℕ, ◌+◌, ◌==◌, ◌&&◌, Bool, List, Result, Ok, Err, length}
+use Rattle.std.specs.Prelude.{◌≡◌, ℕ, ◌+◌, ◌==◌, ◌&&◌, Bool, Result, Err}
 use Rattle.gv_ctx.specs.declared.descriptor.Descriptor.{Descriptor}
 use Rattle.gv_ctx.specs.declared.image.Image.{Image}
 use Rattle.gv_entry.specs.Ranges.{owns_page}
@@ -12,7 +12,6 @@ use Rattle.gv_types.specs.declared.reply.Reason.TheVariants.{Context, Range}
 use Rattle.gv_types.specs.declared.reply.Stop.TheVariants.{OutOfMemory}
 use Rattle.gv_mdev.specs.Changes.{MayFail, Stops}
 use Rattle.gv_gtt.specs.Gtt.{memory_of}
-use Rattle.gv_mdev.specs.Mdev.{private_of}
 use Rattle.gv_mdev.specs.declared.load.Refusal.{Refusal}
 use Rattle.gv_mdev.specs.declared.load.Refusal.TheVariants.{Fails, Stopped}
 use Rattle.gv_mdev.specs.declared.mdev.Mdev.{Mdev}

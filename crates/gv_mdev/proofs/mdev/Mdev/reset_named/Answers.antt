@@ -1,6 +1,5 @@
 use Rattle.std.proofs.Common.{◌≡◌, ◌+◌, ap, subst, arith}
 use Rattle.gv_types.specs.declared.reply.Stop.TheVariants.{DeviceFault}
-use Rattle.gv_gpu.specs.Device.{Device}
 use Rattle.gv_mdev.specs.Owners.{is_here}
 use Rattle.gv_mdev.specs.Reset.{AreReset, are_named_below}
 use Rattle.gv_mdev.proofs.ResetAll.{named-more, named-none, named-same, none-reset, on-err, reset-more, reset-now, reset-stops}

@@ -1,4 +1,4 @@
-use Rattle.std.proofs.Common.{◌≡◌, ◌<◌, None, rules, sym, subst, false}
+use Rattle.std.proofs.Common.{◌≡◌, ◌<◌, None, rules, sym, subst}
 use Rattle.std.proofs.lemmas.Result.{IfOk-weaker}
 use Rattle.gv_private.specs.Turn.{turned}
 use Rattle.gv_types.specs.declared.reply.Outcome.TheVariants as outcomes
