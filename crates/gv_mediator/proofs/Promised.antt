@@ -1,5 +1,5 @@
 -- What a reply promises of the guests' tables, from what the call of one guest promises of its own.
-use Rattle.std.proofs.Common.{◌≡◌, ℕ, ◌<◌, ◌≤◌, Bool, None, Some, List, length, get_or, set, Result, Ok, Err, IfOk, OnOk, Option, sym, ap, ◌∙◌, subst, ⊤}
+use Rattle.std.proofs.Common.{◌≡◌, ℕ, ◌<◌, ◌≤◌, Bool, None, Some, List, length, get_or, set, Result, Ok, Err, IfOk, OnOk, Option, sym, ap, ◌∙◌, subst}
 use Rattle.std.proofs.lemmas.List.{get_or_default, get_or-set_same, length-set}
 use Rattle.std.specs.Vec.{with_item}
 use Rattle.gv_types.specs.declared.event.Event.{Event}
@@ -32,9 +32,9 @@ all-follow d m tied g v at =
     subst (FollowsTables d v) (sym (device-there d owners m.guests.items g v at ∙ ap (λ n. private_of d v (owns owners n)) (tied.ties.number g v at)))
     (tables_are_followed d v (owns owners g) (tied.ties.holds g v at))
 
-pub all-follow-ok : {A E : Type 0} (r : Result A E) (d : Device) (m : Mediator) → OnOk r (Tied d m) → OnOk r (AllFollow d m)
-all-follow-ok (Ok a) d m tied = all-follow d m tied
-all-follow-ok (Err e) d m tied = tt
+pub follow-ok : {A E : Type 0} (r : Result A E) (d : Device) (m : Mediator) (stopped : Bool) → OnOk r (Tied d m) → OnOk r (AllFollow d (record m { stopped = stopped }))
+follow-ok (Ok a) d m stopped tied = all-follow d m tied
+follow-ok (Err e) d m stopped tied = tt
 
 -- ---- one guest's device among all
 
