@@ -2,6 +2,7 @@ mod Room
 mod Owning
 mod OneGuest
 mod Receiving
+mod Promised
 mod Joining
 mod FirstGuests
 mod Memories

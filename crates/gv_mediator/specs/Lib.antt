@@ -2,6 +2,7 @@ pub mod Rota
 pub mod Tied
 pub mod Event
 pub mod Listed
+pub mod Tables
 pub mod First
 pub mod Joining
 pub mod Laws

@@ -4,17 +4,19 @@ use Rattle.gv_types.specs.declared.event.Event.{Event}
 use Rattle.gv_types.specs.declared.event.Event.TheVariants.{Turn, Reset}
 use Rattle.gv_types.specs.declared.reply.Answer.{Answer}
 use Rattle.gv_types.specs.declared.reply.Answer.TheVariants as answers
+use Rattle.gv_types.specs.declared.reply.Outcome.TheVariants.{Idle}
 use Rattle.gv_gpu.specs.Device.{Device}
 use Rattle.gv_machine.specs.Machine.{Machine, Receiver, device, rota, device_at, event_receiver, owner_after}
 use Rattle.gv_private.specs.Device.{PrivateDevice}
+use Rattle.gv_private.specs.Turn.{turned}
 use Rattle.gv_mdev.specs.Access.{AccessMayFault, AccessMayLackMemory}
 use Rattle.gv_mdev.specs.Turn.{StepsOnce}
 
 -- ---- faults
 
--- of a guest's device: a turn, a reset, and an access at which it may fault
+-- of a guest's device: a turn that isn't idle, a reset, and an access at which it may fault
 abbrev pub DeviceMayFault : PrivateDevice → Event → Type 0
-DeviceMayFault p (Turn engine) = ⊤
+DeviceMayFault p (Turn engine) = (turned p engine.0).outcome ≢ Idle
 DeviceMayFault p (Reset guest) = ⊤
 DeviceMayFault p one = AccessMayFault p one
 
@@ -28,9 +30,9 @@ EventMayFault m one = ReceiverMayFault m one (event_receiver m.owners one)
 
 -- ---- want of memory
 
--- of a guest's device: a turn, and an access that may lack memory, a move among them
+-- of a guest's device: a turn that isn't idle, and an access that may lack memory, a move among them
 abbrev pub DeviceMayLackMemory : PrivateDevice → Event → Type 0
-DeviceMayLackMemory p (Turn engine) = ⊤
+DeviceMayLackMemory p (Turn engine) = (turned p engine.0).outcome ≢ Idle
 DeviceMayLackMemory p one = AccessMayLackMemory p one
 
 -- a switch takes none

@@ -5,13 +5,14 @@ ghost use Rattle.gv_gtt.specs.Gtt.{frames_of, number_of};
 ghost use Rattle.gv_machine.specs.Machine.{Happened, Machine, event_receiver, guest_in};
 ghost use Rattle.gv_sched.specs.Rota.{owner_of};
 ghost use Rattle.gv_private.specs.Inputs.{answer};
-ghost use Rattle.gv_mdev.specs.Access.{Replies};
+ghost use Rattle.gv_mdev.specs.Access.{AccessMoves, AccessPokes, Replies};
 ghost use Rattle.gv_mdev.specs.Changes.{Stops};
 ghost use Rattle.gv_mediator.specs.Event.{GoesToDevice, IsEvent, IsGuestEvent, entries_ran, event_done};
 ghost use Rattle.gv_mediator.specs.Listed.{AnswersOnce, DeviceMayFault, DeviceMayLackMemory, EventMayFault, EventMayLackMemory};
 ghost use Rattle.gv_mdev.specs.Mdev.{private_of};
 ghost use Rattle.gv_mdev.specs.Owners.{is_here};
 ghost use Rattle.gv_mdev.specs.Standing.{HasRoomToLoad, Holds};
+ghost use Rattle.gv_mediator.specs.Tables.{AllFollow, EventMoves, EventPokes};
 ghost use Rattle.gv_mediator.specs.Tied.{Tied, machine_of};
 
 use crate::mediator::Mediator;
@@ -39,6 +40,8 @@ fn answer<G: Gpu>(
     ensures faults { IsErrOf result Stop.DeviceFault → DeviceMayFault (private_of (G.state gpu.old) device.old (is_here here)) event.now }
     ensures lacks { IsErrOf result Stop.OutOfMemory → DeviceMayLackMemory (private_of (G.state gpu.old) device.old (is_here here)) event.now }
     ensures once { IfOk result (λ reply. AnswersOnce (G.state gpu.old) (G.state gpu.new) event.now reply.answer) }
+    ensures moves { IfOk result (λ reply. AccessMoves (G.state gpu.new) device.old device.new event.now reply.answer) }
+    ensures pokes { IfOk result (λ reply. AccessPokes (G.state gpu.old) (G.state gpu.new) (private_of (G.state gpu.old) device.old (is_here here)) (private_of (G.state gpu.new) device.new (is_here here)) event.now reply.failsafe) }
 {
     match event {
         Event::Turn { engine } => {
@@ -94,6 +97,8 @@ impl Mediator {
         ensures faults { IsErrOf result Stop.DeviceFault → EventMayFault (machine_of (G.state gpu.old) self.old) event.now }
         ensures lacks { IsErrOf result Stop.OutOfMemory → EventMayLackMemory (machine_of (G.state gpu.old) self.old) event.now }
         ensures once { IfOk result (λ reply. AnswersOnce (G.state gpu.old) (G.state gpu.new) event.now reply.answer) }
+        ensures moves { IfOk result (λ reply. EventMoves (G.state gpu.new) self.old self.new event.now reply.answer) }
+        ensures pokes { IfOk result (λ reply. EventPokes (G.state gpu.old) (G.state gpu.new) (machine_of (G.state gpu.old) self.old) (machine_of (G.state gpu.new) self.new) event.now reply.failsafe) }
     {
         let guest = self.receiver(event);
         let here = self.owned_by(guest);
@@ -114,6 +119,8 @@ impl Mediator {
         ensures faults { IsErrOf result Stop.DeviceFault → EventMayFault (machine_of (G.state gpu.old) self.old) event.now }
         ensures lacks { IsErrOf result Stop.OutOfMemory → EventMayLackMemory (machine_of (G.state gpu.old) self.old) event.now }
         ensures once { IfOk result (λ reply. AnswersOnce (G.state gpu.old) (G.state gpu.new) event.now reply.answer) }
+        ensures moves { IfOk result (λ reply. EventMoves (G.state gpu.new) self.old self.new event.now reply.answer) }
+        ensures pokes { IfOk result (λ reply. EventPokes (G.state gpu.old) (G.state gpu.new) (machine_of (G.state gpu.old) self.old) (machine_of (G.state gpu.new) self.new) event.now reply.failsafe) }
     {
         match event {
             Event::Switch { engine } => match self.switch(gpu, *engine) {
@@ -125,8 +132,8 @@ impl Mediator {
     }
 
     /// One event: the reply is that of the machine, which is as after the event then. After a `Stop` no further event is
-    /// taken. `DeviceFault` comes only at a turn, at a reset, at an access at which the guest's device may fault, and at a
-    /// switch by which the owner changes; `OutOfMemory` only at a turn, at a move, and at a write of a live table or of
+    /// taken. `DeviceFault` comes only at a turn that isn't idle, at a reset, at an access at which the guest's device may fault, and at a
+    /// switch by which the owner changes; `OutOfMemory` only at a turn that isn't idle, at a move, and at a write of a live table or of
     /// notify.
     pub fn event<G: Gpu>(
         &mut self,
@@ -147,6 +154,9 @@ impl Mediator {
         ensures faults { IsErrOf result Stop.DeviceFault → EventMayFault (machine_of (G.state gpu.old) self.old) event.now }
         ensures lacks { IsErrOf result Stop.OutOfMemory → EventMayLackMemory (machine_of (G.state gpu.old) self.old) event.now }
         ensures once { IfOk result (λ reply. AnswersOnce (G.state gpu.old) (G.state gpu.new) event.now reply.answer) }
+        ensures moves { IfOk result (λ reply. EventMoves (G.state gpu.new) self.old self.new event.now reply.answer) }
+        ensures pokes { IfOk result (λ reply. EventPokes (G.state gpu.old) (G.state gpu.new) (machine_of (G.state gpu.old) self.old) (machine_of (G.state gpu.new) self.new) event.now reply.failsafe) }
+        ensures followed { OnOk result (AllFollow (G.state gpu.new) self.new) }
     {
         let answer = self.received(alloc, gpu, event);
         self.stopped = answer.is_err();

@@ -1,13 +1,14 @@
 use Rattle.std.proofs.Common.{ℕ, Bool, length, sym, subst}
 use Rattle.gv_gtt.specs.Gtt.{number_of}
 use Rattle.gv_mdev.specs.Standing.{Holds}
-use Rattle.gv_mdev.specs.Access.{Replies}
+use Rattle.gv_mdev.specs.Access.{AccessPokes, Replies}
 use Rattle.gv_mediator.specs.Event.{IsGuestEvent}
 use Rattle.gv_mediator.specs.Listed.{DeviceMayFault, DeviceMayLackMemory}
 use Rattle.gv_mdev.specs.Mdev.{private_of}
 use Rattle.gv_private.specs.Inputs.{answer}
 use Rattle.gv_mediator.specs.Tied.{IsAt}
 use Rattle.gv_mediator.proofs.Receiving.{guest-event, live-here, machine-then, may-fault, may-lack, ok-all, ok-then, ran-then, receiver-there, reply-is, room-here, tied-then}
+use Rattle.gv_mediator.proofs.Promised.{moves-then, ok-both, pokes-then}
 use Rattle.gv_mediator.proofs.mediator.Mediator.guest_event.Goals as goal
 
 pub answer-requires-clause-holds : goal.answer-requires-clause-holds
@@ -129,3 +130,29 @@ returns-clause-lacks g c lack =
     let here : IsAt m.guests.items k old = (receiver-there d m c.requires.tied one k c.requires.event c.receiver-guest.ensures, sym c.index_mut-device.ensures.value) in
     may-lack d m c.requires.tied one k c.requires.event c.receiver-guest.ensures old here
     (subst (λ (own : ℕ → Bool). DeviceMayLackMemory (private_of d old own) one) c.owned_by-here.ensures (c.answer.ensures.lacks lack))
+
+pub returns-clause-moves : goal.returns-clause-moves
+returns-clause-moves g c =
+    let d = g.G.Gpu.state c.args.gpu.now in
+    let e = g.G.Gpu.state c.answer.new.gpu in
+    let m = c.args.self.now in
+    let k = c.receiver-guest.result.0 in
+    let old = c.index_mut-device.result.now in
+    let new = c.answer.new.device in
+    let one = c.args.event.now in
+    let here : IsAt m.guests.items k old = (receiver-there d m c.requires.tied one k c.requires.event c.receiver-guest.ensures, sym c.index_mut-device.ensures.value) in
+    ok-all c.answer.result _ _ c.answer.ensures.moves (λ reply moves. moves-then d e m k old new m.stopped here one reply.answer c.receiver-guest.ensures moves)
+
+pub returns-clause-pokes : goal.returns-clause-pokes
+returns-clause-pokes g c =
+    let d = g.G.Gpu.state c.args.gpu.now in
+    let e = g.G.Gpu.state c.answer.new.gpu in
+    let m = c.args.self.now in
+    let k = c.receiver-guest.result.0 in
+    let old = c.index_mut-device.result.now in
+    let new = c.answer.new.device in
+    let one = c.args.event.now in
+    let here : IsAt m.guests.items k old = (receiver-there d m c.requires.tied one k c.requires.event c.receiver-guest.ensures, sym c.index_mut-device.ensures.value) in
+    ok-both c.answer.result _ _ _ c.answer.ensures.replies c.answer.ensures.pokes
+    (λ reply replies pokes. pokes-then d e m k old new m.stopped here c.requires.tied.ties replies.keeps.number one reply.failsafe c.receiver-guest.ensures
+    (subst (λ (own : ℕ → Bool). AccessPokes d e (private_of d old own) (private_of e new own) one reply.failsafe) c.owned_by-here.ensures pokes))

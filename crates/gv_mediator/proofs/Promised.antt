@@ -1,0 +1,88 @@
+-- What a reply promises of the guests' tables, from what the call of one guest promises of its own.
+use Rattle.std.proofs.Common.{◌≡◌, ℕ, ◌<◌, ◌≤◌, Bool, None, Some, List, length, get_or, set, Result, Ok, Err, IfOk, OnOk, Option, sym, ap, ◌∙◌, subst}
+use Rattle.std.proofs.lemmas.List.{get_or_default, get_or-set_same, length-set}
+use Rattle.std.specs.Vec.{with_item}
+use Rattle.gv_types.specs.declared.event.Event.{Event}
+use Rattle.gv_types.specs.declared.event.Event.TheVariants.{Read, Write, Turn, Switch, Move, Reset}
+use Rattle.gv_types.specs.declared.event.Place.{Place}
+use Rattle.gv_types.specs.declared.reply.Answer.{Answer}
+use Rattle.gv_types.specs.declared.reply.Reason.{Reason}
+use Rattle.gv_gpu.specs.Device.{Device}
+use Rattle.gv_gtt.specs.Gtt.{number_of}
+use Rattle.gv_machine.specs.Machine.{device_at, event_receiver, guest_in}
+use Rattle.gv_private.specs.Device.{PrivateDevice}
+use Rattle.gv_sched.specs.Rota.{owner_of}
+use Rattle.gv_mdev.specs.Access.{AccessMoves, AccessPokes, FrameMoves, WritePokes}
+use Rattle.gv_mdev.specs.Followed.{FollowsTables}
+use Rattle.gv_mdev.specs.Mdev.{private_of}
+use Rattle.gv_mdev.specs.declared.mdev.Mdev.{Mdev}
+use Rattle.gv_mdev.proofs.Followed.{tables_are_followed}
+use Rattle.gv_mediator.specs.Rota.{owners_in, owns}
+use Rattle.gv_mediator.specs.Tables.{AllFollow, EventMoves, EventPokes}
+use Rattle.gv_mediator.specs.Tied.{IsAt, Tied, Ties, devices_in, machine_of}
+use Rattle.gv_mediator.specs.declared.mediator.Mediator.{Mediator}
+use Rattle.gv_mediator.proofs.OneGuest.{device-there}
+use Rattle.gv_mediator.proofs.Owning.{same-some}
+
+-- ---- tables
+
+pub all-follow : (d : Device) (m : Mediator) → Tied d m → AllFollow d m
+all-follow d m tied g v at =
+    let owners = owners_in m.rota in
+    subst (FollowsTables d v) (sym (device-there d owners m.guests.items g v at ∙ ap (λ n. private_of d v (owns owners n)) (tied.ties.number g v at)))
+    (tables_are_followed d v (owns owners g) (tied.ties.holds g v at))
+
+pub follow-ok : {A E : Type 0} (r : Result A E) (d : Device) (m : Mediator) (stopped : Bool) → OnOk r (Tied d m) → OnOk r (AllFollow d (record m { stopped = stopped }))
+follow-ok (Ok a) d m stopped tied = all-follow d m tied
+follow-ok (Err e) d m stopped tied = tt
+
+-- ---- one guest's device among all
+
+-- there is one at each place
+one-there : (guests : List Mdev) (k : ℕ) (v w : Mdev) → IsAt guests k v → IsAt guests k w → v ≡ w
+one-there guests k v w at also = sym at.1 ∙ get_or_default guests k v w at.0 ∙ also.1
+
+module _ (d e : Device) (m : Mediator) (k : ℕ) (old new : Mdev) (stopped : Bool) (here : IsAt m.guests.items k old) where
+  abbrev after : Mediator
+  after = record { guests = with_item m.guests k new; rota = m.rota; stopped = stopped }
+
+  set-there : IsAt after.guests.items k new
+  set-there = (subst (λ n. k < n) (sym (length-set m.guests.items k new)) here.0, get_or-set_same m.guests.items k new new here.0)
+
+  pub moves-then : (one : Event) (answer : Answer) → guest_in (event_receiver (owner_of m.rota) one) ≡ Some k → AccessMoves e old new one answer → EventMoves e m after one answer
+  moves-then (Read guest place width at) answer mine moves = tt
+  moves-then (Write guest place width at value) answer mine moves = tt
+  moves-then (Move guest frame) answer mine moves = λ v w before now.
+      let same : guest.0 ≡ k = same-some guest.0 k mine in
+      subst (λ v. FrameMoves e v w frame answer) (one-there m.guests.items k old v here (subst (λ n. IsAt m.guests.items n v) same before))
+      (subst (λ w. FrameMoves e old w frame answer) (one-there after.guests.items k new w set-there (subst (λ n. IsAt after.guests.items n w) same now)) moves)
+  moves-then (Reset guest) answer mine moves = tt
+  moves-then (Turn engine) answer mine moves = tt
+  moves-then (Switch engine) answer mine moves = tt
+
+  module _ (ties : Ties d (owners_in m.rota) m.guests.items) (number : number_of new.gtt ≡ number_of old.gtt) where
+    before-is : device_at (machine_of d m).devices k ≡ private_of d old (owns (owners_in m.rota) k)
+    before-is = device-there d (owners_in m.rota) m.guests.items k old here ∙ ap (λ n. private_of d old (owns (owners_in m.rota) n)) (ties.number k old here)
+
+    after-is : device_at (machine_of e after).devices k ≡ private_of e new (owns (owners_in m.rota) k)
+    after-is = device-there e (owners_in m.rota) after.guests.items k new set-there ∙ ap (λ n. private_of e new (owns (owners_in m.rota) n)) (number ∙ ties.number k old here)
+
+    pub pokes-then :
+        (one : Event) (failsafe : Option Reason) → guest_in (event_receiver (owner_of m.rota) one) ≡ Some k
+        → AccessPokes d e (private_of d old (owns (owners_in m.rota) k)) (private_of e new (owns (owners_in m.rota) k)) one failsafe → EventPokes d e (machine_of d m) (machine_of e after) one failsafe
+    pokes-then (Read guest place width at) failsafe mine pokes = tt
+    pokes-then (Write guest place width at value) failsafe mine pokes =
+        let same : guest.0 ≡ k = same-some guest.0 k mine in
+        subst (λ n. WritePokes d e (device_at (machine_of d m).devices n) (device_at (machine_of e after).devices n) place at failsafe) (sym same)
+        (subst (λ p. WritePokes d e p (device_at (machine_of e after).devices k) place at failsafe) (sym before-is)
+        (subst (λ q. WritePokes d e (private_of d old (owns (owners_in m.rota) k)) q place at failsafe) (sym after-is) pokes))
+    pokes-then (Move guest frame) failsafe mine pokes = tt
+    pokes-then (Reset guest) failsafe mine pokes = tt
+    pokes-then (Turn engine) failsafe mine pokes = tt
+    pokes-then (Switch engine) failsafe mine pokes = tt
+
+-- ---- results
+
+pub ok-both : {A E : Type 0} (r : Result A E) (P Q R : A → Type 0) → IfOk r P → IfOk r Q → ((a : A) → P a → Q a → R a) → IfOk r R
+ok-both (Ok a) P Q R first second next = next a first second
+ok-both (Err e) P Q R first second next = tt
