@@ -1,16 +1,14 @@
 -- What a reply promises of the guests' tables, from what the call of one guest promises of its own.
-use Rattle.std.proofs.Common.{◌≡◌, ℕ, ◌<◌, ◌≤◌, Bool, None, Some, List, length, get_or, set, Result, Ok, Err, IfOk, OnOk, Option, sym, ap, ◌∙◌, subst}
+use Rattle.std.proofs.Common.{◌≡◌, ℕ, ◌<◌, Bool, Some, List, Result, Ok, Err, IfOk, OnOk, Option, sym, ap, ◌∙◌, subst}
 use Rattle.std.proofs.lemmas.List.{get_or_default, get_or-set_same, length-set}
 use Rattle.std.specs.Vec.{with_item}
 use Rattle.gv_types.specs.declared.event.Event.{Event}
 use Rattle.gv_types.specs.declared.event.Event.TheVariants.{Read, Write, Turn, Switch, Move, Reset}
-use Rattle.gv_types.specs.declared.event.Place.{Place}
 use Rattle.gv_types.specs.declared.reply.Answer.{Answer}
 use Rattle.gv_types.specs.declared.reply.Reason.{Reason}
 use Rattle.gv_gpu.specs.Device.{Device}
 use Rattle.gv_gtt.specs.Gtt.{number_of}
 use Rattle.gv_machine.specs.Machine.{device_at, event_receiver, guest_in}
-use Rattle.gv_private.specs.Device.{PrivateDevice}
 use Rattle.gv_sched.specs.Rota.{owner_of}
 use Rattle.gv_mdev.specs.Access.{AccessMoves, AccessPokes, FrameMoves, WritePokes}
 use Rattle.gv_mdev.specs.Followed.{FollowsTables}
@@ -19,7 +17,7 @@ use Rattle.gv_mdev.specs.declared.mdev.Mdev.{Mdev}
 use Rattle.gv_mdev.proofs.Followed.{tables_are_followed}
 use Rattle.gv_mediator.specs.Rota.{owners_in, owns}
 use Rattle.gv_mediator.specs.Tables.{AllFollow, EventMoves, EventPokes}
-use Rattle.gv_mediator.specs.Tied.{IsAt, Tied, Ties, devices_in, machine_of}
+use Rattle.gv_mediator.specs.Tied.{IsAt, Tied, Ties, machine_of}
 use Rattle.gv_mediator.specs.declared.mediator.Mediator.{Mediator}
 use Rattle.gv_mediator.proofs.OneGuest.{device-there}
 use Rattle.gv_mediator.proofs.Owning.{same-some}

@@ -1,5 +1,5 @@
 -- What a reply promises of the guests' own tables, frames and memory.
-use Rattle.std.specs.Prelude.{◌≡◌, ℕ, Option, ⊤}
+use Rattle.std.specs.Prelude.{ℕ, Option, ⊤}
 use Rattle.gv_types.specs.declared.event.Event.{Event}
 use Rattle.gv_types.specs.declared.event.Event.TheVariants.{Move, Write}
 use Rattle.gv_types.specs.declared.reply.Answer.{Answer}
