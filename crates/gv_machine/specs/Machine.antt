@@ -1,5 +1,5 @@
 -- The machine: a private device for each guest, and who owns each engine; the course of inputs that go to them.
-use Rattle.std.specs.Prelude.{ℕ, ◌+◌, ◌/◌, ◌%◌, ◌^◌, List, [], ◌∷◌, ◌++◌, Bool, true, false, ◌||◌, Option, None, Some, length, map, slice_index_or, slice_set}
+use Rattle.std.specs.Prelude.{ℕ, ◌+◌, ◌/◌, ◌%◌, ◌^◌, List, [], ◌∷◌, ◌++◌, Bool, Option, None, Some, length, map, slice_index_or, slice_set}
 use Rattle.std.specs.List.{flat_map, sum_by}
 use Rattle.gv_types.specs.Maps.{put}
 use Rattle.gv_types.specs.Memory.{bytes_of}

@@ -7,6 +7,8 @@ use Rattle.gv_types.specs.declared.ids.EngineId.{EngineId}
 use Rattle.gv_types.specs.declared.reply.Reply.{Reply}
 use Rattle.gv_gpu.specs.Change.{Ran}
 use Rattle.gv_gpu.specs.Device.{Device, JournalEntry}
+use Rattle.gv_gtt.specs.Gtt.{number_of}
+use Rattle.gv_sched.specs.Rota.{owner_of}
 use Rattle.gv_private.specs.Inputs.{Input, event, answer}
 use Rattle.gv_private.specs.Turn.{JournalEntry as PrivateEntry}
 use Rattle.gv_machine.specs.Course.{play}
@@ -17,13 +19,11 @@ use Rattle.gv_machine.proofs.Joined.{length-played}
 use Rattle.gv_machine.proofs.Named.{IsEventBelow, AreBelow}
 use Rattle.gv_machine.proofs.OwnCourse.{IsWhole as Whole, whole-played}
 use Rattle.gv_machine.proofs.Rotas.{OwnersAreThere, next-there}
-use Rattle.gv_gtt.specs.Gtt.{number_of}
 use Rattle.gv_mdev.specs.Mdev.{private_of}
 use Rattle.gv_mdev.specs.declared.mdev.Mdev.{Mdev}
-use Rattle.gv_sched.specs.Rota.{owner_of}
+use Rattle.gv_mdev.specs.Changes.{entry_of}
 use Rattle.gv_mediator.specs.Rota.{owners_in, owns}
 use Rattle.gv_mediator.specs.Event.{IsEvent, received_by, event_done, entries_ran}
-use Rattle.gv_mdev.specs.Changes.{entry_of}
 use Rattle.gv_mediator.specs.Tied.{Tied, machine_of}
 use Rattle.gv_mediator.specs.declared.mediator.Mediator.{Mediator}
 use Rattle.gv_text.specs.declared.script_line.Line.{Line}
