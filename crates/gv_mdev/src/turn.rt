@@ -1,4 +1,4 @@
-ghost use Rattle.std.specs.Prelude.{◌≡◌, ◌≢◌, ℕ, ◌<◌, Bool, true, false, IfOk, IfErr, IsSome, OnErr, length, slice_index};
+ghost use Rattle.std.specs.Prelude.{◌≡◌, ◌≢◌, ℕ, ◌<◌, Bool, true, false, IfOk, IfErr, IsErrOf, IsSome, OnErr, length, slice_index};
 ghost use Rattle.gv_csb.specs.Status.{in_order};
 ghost use Rattle.gv_gpu.specs.Device.{Device};
 ghost use Rattle.gv_mmio.specs.Mmio.{ports_at};
@@ -47,6 +47,7 @@ fn one_step<G: Gpu>(gpu: &mut G, engine: EngineId) -> Result<Step, Stop>
     ensures made { IfOk result (λ answer. Made (G.state gpu.old) (G.state gpu.new) engine.0 answer) }
     ensures small { IfOk result HasSmallDwords }
     ensures stops { IfErr result (λ stop. Unmade (G.state gpu.old) (G.state gpu.new) stop) }
+    ensures spare { IsErrOf result Stop.OutOfMemory → (G.state gpu.old).spare ≡ 0 }
 {
     match gpu.reserve(1) {
         Ok(()) => {
@@ -166,6 +167,7 @@ impl Mdev {
         ensures turns { IfOk result (λ t. Turns (is_here here) (G.state gpu.old) (G.state gpu.new) self.old self.new (turned (private_of (G.state gpu.old) self.old (is_here here)) engine.0) t.outcome t.notice) }
         ensures stops { IfErr result (λ stop. Stops (is_here here) (G.state gpu.old) (G.state gpu.new) self.old stop) }
         ensures once { IfOk result (λ t. StepsOnce (G.state gpu.old) (G.state gpu.new) engine.0 t.outcome) }
+        ensures spare { IsErrOf result Stop.OutOfMemory → (G.state gpu.old).spare ≡ 0 }
     {
         match one_step(gpu, engine) {
             Ok(Step::Ran { raise, .. }) => Ok(Turned {
@@ -192,7 +194,8 @@ impl Mdev {
         }
     }
 
-    /// A turn of an engine that the guest owns. An element at work makes one step; else the next is loaded.
+    /// A turn of an engine that the guest owns. An element at work makes one step; else the next is loaded. A turn that is
+    /// idle doesn't fail, and a step takes no memory where the journal has room for an entry.
     pub fn turn<G: Gpu>(
         &mut self,
         alloc: Global,
@@ -208,6 +211,7 @@ impl Mdev {
         ensures stops { IfErr result (λ stop. Stops (is_here here) (G.state gpu.old) (G.state gpu.new) self.old stop) }
         ensures once { IfOk result (λ t. StepsOnce (G.state gpu.old) (G.state gpu.new) engine.0 t.outcome) }
         ensures busy { OnErr result ((turned (private_of (G.state gpu.old) self.old (is_here here)) engine.0).outcome ≢ Outcome.Idle) }
+        ensures spare { IsErrOf result Stop.OutOfMemory → IsSome (engine_at self.old engine.0).element → (G.state gpu.old).spare ≡ 0 }
     {
         if self.failsafe {
             return Ok(Turned {
