@@ -3,6 +3,7 @@ mod Owning
 mod OneGuest
 mod Receiving
 mod Promised
+mod Lacking
 mod Joining
 mod FirstGuests
 mod Memories

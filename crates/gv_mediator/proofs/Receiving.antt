@@ -117,8 +117,8 @@ module _ (d : Device) (m : Mediator) (tied : Tied d m) (one : Event) (k : ℕ) (
     pub may-fault : DeviceMayFault (private_of d old (owns (owners_in m.rota) k)) one → EventMayFault (machine_of d m) one
     may-fault may = subst (ReceiverMayFault (machine_of d m) one) (sym receiver-is) (subst (λ p. DeviceMayFault p one) (sym device-is) may)
 
-    pub may-lack : DeviceMayLackMemory (private_of d old (owns (owners_in m.rota) k)) one → EventMayLackMemory (machine_of d m) one
-    may-lack may = subst (ReceiverMayLackMemory (machine_of d m) one) (sym receiver-is) (subst (λ p. DeviceMayLackMemory p one) (sym device-is) may)
+    pub may-lack : DeviceMayLackMemory d (private_of d old (owns (owners_in m.rota) k)) one → EventMayLackMemory d (machine_of d m) one
+    may-lack may = subst (ReceiverMayLackMemory d (machine_of d m) one) (sym receiver-is) (subst (λ p. DeviceMayLackMemory d p one) (sym device-is) may)
 
     -- ---- what comes of it
 

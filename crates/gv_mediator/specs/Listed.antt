@@ -1,5 +1,5 @@
 -- At which events the device may fault, and which may lack memory; a turn as one step of the device.
-use Rattle.std.specs.Prelude.{◌≢◌, ⊤}
+use Rattle.std.specs.Prelude.{◌≡◌, ◌≢◌, IsSome, ⊤}
 use Rattle.gv_types.specs.declared.event.Event.{Event}
 use Rattle.gv_types.specs.declared.event.Event.TheVariants.{Turn, Reset}
 use Rattle.gv_types.specs.declared.reply.Answer.{Answer}
@@ -30,18 +30,19 @@ EventMayFault m one = ReceiverMayFault m one (event_receiver m.owners one)
 
 -- ---- want of memory
 
--- of a guest's device: a turn that isn't idle, and an access that may lack memory, a move among them
-abbrev pub DeviceMayLackMemory : PrivateDevice → Event → Type 0
-DeviceMayLackMemory p (Turn engine) = (turned p engine.0).outcome ≢ Idle
-DeviceMayLackMemory p one = AccessMayLackMemory p one
+-- of a guest's device: a turn that isn't idle, and one of an element at work only where the journal has no room for an
+-- entry; and an access that may lack memory, a move among them
+abbrev pub DeviceMayLackMemory : Device → PrivateDevice → Event → Type 0
+DeviceMayLackMemory d p (Turn engine) = ((turned p engine.0).outcome ≢ Idle) × (IsSome (p.engines engine.0).element → d.spare ≡ 0)
+DeviceMayLackMemory d p one = AccessMayLackMemory p one
 
 -- a switch takes none
-abbrev pub ReceiverMayLackMemory : Machine → Event → Receiver → Type 0
-ReceiverMayLackMemory m one (device g) = DeviceMayLackMemory (device_at m.devices g) one
-ReceiverMayLackMemory m one (rota engine) = ⊥
+abbrev pub ReceiverMayLackMemory : Device → Machine → Event → Receiver → Type 0
+ReceiverMayLackMemory d m one (device g) = DeviceMayLackMemory d (device_at m.devices g) one
+ReceiverMayLackMemory d m one (rota engine) = ⊥
 
-abbrev pub EventMayLackMemory : Machine → Event → Type 0
-EventMayLackMemory m one = ReceiverMayLackMemory m one (event_receiver m.owners one)
+abbrev pub EventMayLackMemory : Device → Machine → Event → Type 0
+EventMayLackMemory d m one = ReceiverMayLackMemory d m one (event_receiver m.owners one)
 
 -- ---- steps
 

@@ -38,7 +38,7 @@ fn answer<G: Gpu>(
     ensures replies { IfOk result (λ reply. Replies (is_here here) (G.state gpu.old) (G.state gpu.new) device.old device.new (answer (private_of (G.state gpu.old) device.old (is_here here)) event.now) reply) }
     ensures stops { IfErr result (λ stop. Stops (is_here here) (G.state gpu.old) (G.state gpu.new) device.old stop) }
     ensures faults { IsErrOf result Stop.DeviceFault → DeviceMayFault (private_of (G.state gpu.old) device.old (is_here here)) event.now }
-    ensures lacks { IsErrOf result Stop.OutOfMemory → DeviceMayLackMemory (private_of (G.state gpu.old) device.old (is_here here)) event.now }
+    ensures lacks { IsErrOf result Stop.OutOfMemory → DeviceMayLackMemory (G.state gpu.old) (private_of (G.state gpu.old) device.old (is_here here)) event.now }
     ensures once { IfOk result (λ reply. AnswersOnce (G.state gpu.old) (G.state gpu.new) event.now reply.answer) }
     ensures moves { IfOk result (λ reply. AccessMoves (G.state gpu.new) device.old device.new event.now reply.answer) }
     ensures pokes { IfOk result (λ reply. AccessPokes (G.state gpu.old) (G.state gpu.new) (private_of (G.state gpu.old) device.old (is_here here)) (private_of (G.state gpu.new) device.new (is_here here)) event.now reply.failsafe) }
@@ -95,7 +95,7 @@ impl Mediator {
         ensures stopped { OnErr result (Ran (G.state gpu.old) (G.state gpu.new) []) }
         ensures cause { IsErrOf result Stop.DeviceFault → counted (G.state gpu.old).faults ≤ (G.state gpu.new).faults }
         ensures faults { IsErrOf result Stop.DeviceFault → EventMayFault (machine_of (G.state gpu.old) self.old) event.now }
-        ensures lacks { IsErrOf result Stop.OutOfMemory → EventMayLackMemory (machine_of (G.state gpu.old) self.old) event.now }
+        ensures lacks { IsErrOf result Stop.OutOfMemory → EventMayLackMemory (G.state gpu.old) (machine_of (G.state gpu.old) self.old) event.now }
         ensures once { IfOk result (λ reply. AnswersOnce (G.state gpu.old) (G.state gpu.new) event.now reply.answer) }
         ensures moves { IfOk result (λ reply. EventMoves (G.state gpu.new) self.old self.new event.now reply.answer) }
         ensures pokes { IfOk result (λ reply. EventPokes (G.state gpu.old) (G.state gpu.new) (machine_of (G.state gpu.old) self.old) (machine_of (G.state gpu.new) self.new) event.now reply.failsafe) }
@@ -117,7 +117,7 @@ impl Mediator {
         ensures stopped { OnErr result (Ran (G.state gpu.old) (G.state gpu.new) []) }
         ensures cause { IsErrOf result Stop.DeviceFault → counted (G.state gpu.old).faults ≤ (G.state gpu.new).faults }
         ensures faults { IsErrOf result Stop.DeviceFault → EventMayFault (machine_of (G.state gpu.old) self.old) event.now }
-        ensures lacks { IsErrOf result Stop.OutOfMemory → EventMayLackMemory (machine_of (G.state gpu.old) self.old) event.now }
+        ensures lacks { IsErrOf result Stop.OutOfMemory → EventMayLackMemory (G.state gpu.old) (machine_of (G.state gpu.old) self.old) event.now }
         ensures once { IfOk result (λ reply. AnswersOnce (G.state gpu.old) (G.state gpu.new) event.now reply.answer) }
         ensures moves { IfOk result (λ reply. EventMoves (G.state gpu.new) self.old self.new event.now reply.answer) }
         ensures pokes { IfOk result (λ reply. EventPokes (G.state gpu.old) (G.state gpu.new) (machine_of (G.state gpu.old) self.old) (machine_of (G.state gpu.new) self.new) event.now reply.failsafe) }
@@ -152,7 +152,7 @@ impl Mediator {
         ensures stops { self.new.stopped ≡ is_err result }
         ensures cause { IsErrOf result Stop.DeviceFault → counted (G.state gpu.old).faults ≤ (G.state gpu.new).faults }
         ensures faults { IsErrOf result Stop.DeviceFault → EventMayFault (machine_of (G.state gpu.old) self.old) event.now }
-        ensures lacks { IsErrOf result Stop.OutOfMemory → EventMayLackMemory (machine_of (G.state gpu.old) self.old) event.now }
+        ensures lacks { IsErrOf result Stop.OutOfMemory → EventMayLackMemory (G.state gpu.old) (machine_of (G.state gpu.old) self.old) event.now }
         ensures once { IfOk result (λ reply. AnswersOnce (G.state gpu.old) (G.state gpu.new) event.now reply.answer) }
         ensures moves { IfOk result (λ reply. EventMoves (G.state gpu.new) self.old self.new event.now reply.answer) }
         ensures pokes { IfOk result (λ reply. EventPokes (G.state gpu.old) (G.state gpu.new) (machine_of (G.state gpu.old) self.old) (machine_of (G.state gpu.new) self.new) event.now reply.failsafe) }

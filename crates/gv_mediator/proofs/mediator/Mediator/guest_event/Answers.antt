@@ -129,7 +129,7 @@ returns-clause-lacks g c lack =
     let one = c.args.event.now in
     let here : IsAt m.guests.items k old = (receiver-there d m c.requires.tied one k c.requires.event c.receiver-guest.ensures, sym c.index_mut-device.ensures.value) in
     may-lack d m c.requires.tied one k c.requires.event c.receiver-guest.ensures old here
-    (subst (λ (own : ℕ → Bool). DeviceMayLackMemory (private_of d old own) one) c.owned_by-here.ensures (c.answer.ensures.lacks lack))
+    (subst (λ (own : ℕ → Bool). DeviceMayLackMemory d (private_of d old own) one) c.owned_by-here.ensures (c.answer.ensures.lacks lack))
 
 pub returns-clause-moves : goal.returns-clause-moves
 returns-clause-moves g c =

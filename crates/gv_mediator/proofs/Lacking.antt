@@ -1,0 +1,26 @@
+-- Turns that lack memory.
+use Rattle.std.proofs.Common.{◌≡◌, ◌≢◌, ℕ, Bool, Option, None, Some, Result, Err, refl}
+use Rattle.std.specs.Prelude.{IsSome}
+use Rattle.gv_types.specs.declared.event.Event.TheVariants.{Turn}
+use Rattle.gv_types.specs.declared.ids.EngineId.{EngineId}
+use Rattle.gv_types.specs.declared.reply.Outcome.TheVariants.{Idle}
+use Rattle.gv_element.specs.Works.{Held}
+use Rattle.gv_gpu.specs.Device.{Device}
+use Rattle.gv_gtt.specs.Gtt.{number_of}
+use Rattle.gv_private.specs.Turn.{turned}
+use Rattle.gv_mdev.specs.Mdev.{element_in, engine_at, private_of}
+use Rattle.gv_mdev.specs.declared.mdev.Mdev.{Mdev}
+use Rattle.gv_mediator.specs.Listed.{DeviceMayLackMemory}
+
+-- an error of another call
+pub err-again : {T U E : Type 0} (x y : E) → ◌≡◌ {A = Result T E} (Err x) (Err y) → ◌≡◌ {A = Result U E} (Err x) (Err y)
+err-again x y same = let is : x ≡ y = cc in λ i. Err (is i)
+
+some-in : (d : Device) (guest engine : ℕ) (here : Bool) (o : Option Held) → IsSome (element_in d guest engine here o) → IsSome o
+some-in d guest engine here None is = is
+some-in d guest engine here (Some x) is = refl
+
+pub turn-lacks :
+    (d : Device) (v : Mdev) (here : ℕ → Bool) (engine : EngineId) → (turned (private_of d v here) engine.0).outcome ≢ Idle → (IsSome (engine_at v engine.0).element → d.spare ≡ 0)
+    → DeviceMayLackMemory d (private_of d v here) (Turn engine)
+turn-lacks d v here engine busy spare = (busy, λ some. spare (some-in d (number_of v.gtt) engine.0 (here engine.0) (engine_at v engine.0).element some))
