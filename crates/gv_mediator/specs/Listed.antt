@@ -1,7 +1,8 @@
--- At which events the device may fault, and which may lack memory; a turn as one step of the device.
+-- At which events the device may fault, and which may lack memory; a switch that changes nothing, and a turn as one step of
+-- the device.
 use Rattle.std.specs.Prelude.{◌≡◌, ◌≢◌, IsSome, ⊤}
 use Rattle.gv_types.specs.declared.event.Event.{Event}
-use Rattle.gv_types.specs.declared.event.Event.TheVariants.{Turn, Reset}
+use Rattle.gv_types.specs.declared.event.Event.TheVariants.{Turn, Switch, Reset}
 use Rattle.gv_types.specs.declared.reply.Answer.{Answer}
 use Rattle.gv_types.specs.declared.reply.Answer.TheVariants as answers
 use Rattle.gv_types.specs.declared.reply.Outcome.TheVariants.{Idle}
@@ -44,7 +45,12 @@ ReceiverMayLackMemory d m one (rota engine) = ⊥
 abbrev pub EventMayLackMemory : Device → Machine → Event → Type 0
 EventMayLackMemory d m one = ReceiverMayLackMemory d m one (event_receiver m.owners one)
 
--- ---- steps
+-- ---- what touches the device
+
+-- a switch by which the owner stays
+abbrev pub KeepsOwner : Machine → Event → Type 0
+KeepsOwner m (Switch engine) = owner_after m engine.0 ≡ m.owners engine.0
+KeepsOwner m one = ⊥
 
 -- a turn on which a command ran, or waited, is one step of the device
 abbrev pub AnswersOnce : Device → Device → Event → Answer → Type 0

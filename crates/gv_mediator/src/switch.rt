@@ -62,6 +62,7 @@ impl Mediator {
         ensures tied { OnOk result (Tied (G.state gpu.new) self.new) }
         ensures ran { Ran (G.state gpu.old) (G.state gpu.new) [] }
         ensures cause { OnErr result (counted (G.state gpu.old).faults ≤ (G.state gpu.new).faults) }
+        ensures stays { owner_after (machine_of (G.state gpu.old) self.old) engine.0 ≡ owner_of self.old.rota engine.0 → G.state gpu.new ≡ G.state gpu.old }
         ensures changes { OnErr result (owner_after (machine_of (G.state gpu.old) self.old) engine.0 ≢ owner_of self.old.rota engine.0) }
     {
         let works = works_on(&self.guests, engine);
