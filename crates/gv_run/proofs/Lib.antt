@@ -11,5 +11,6 @@ pub mod ManyTurns
 pub mod Memories
 pub mod Saying
 pub mod Streaming
+pub mod Summed
 pub mod WholeScript
 pub mod Words
