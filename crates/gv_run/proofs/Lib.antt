@@ -2,6 +2,7 @@ pub mod Ahead
 pub mod OneEvent
 pub mod EventLines
 pub mod Finishing
+pub mod GenWords
 pub mod Guests
 pub mod Journal
 pub mod Left

@@ -1,7 +1,8 @@
 -- The summary of the report of a number's script: what was written of it.
-use Rattle.std.proofs.Common.{◌≡◌, ℕ, List, [], ◌++◌, Option, refl, ap, sym, ◌∙◌, subst}
+use Rattle.std.proofs.Common.{◌≡◌, ℕ, List, [], ◌∷◌, ◌++◌, Option, refl, ap, sym, ◌∙◌, subst}
 use Rattle.std.specs.Io.KnownBytes.{Appends}
 use Rattle.gv_text.specs.Report.{text_of}
+use Rattle.gv_text.specs.declared.report_line.ReportLine.{ReportLine}
 use Rattle.gv_text.specs.declared.ending.Ending.TheVariants.{Done}
 use Rattle.gv_gen.specs.Made.{script_made}
 use Rattle.gv_gpu.specs.Change.{Ran, RanPart}
@@ -13,6 +14,7 @@ use Rattle.gv_lines.specs.declared.outlet.Outlet.{Outlet}
 use Rattle.gv_lines.specs.declared.outlet.Outlet.TheVariants as outlets
 use Rattle.gv_lines.specs.declared.totals.Totals.{Totals}
 use Rattle.gv_machine.specs.Machine.{Machine, new_machine}
+use Rattle.gv_machine.proofs.Text.{said_twice}
 use Rattle.gv_machine.specs.Report.{ending_said, script_said}
 use Rattle.gv_mediator.specs.Laws.{HasMemories}
 use Rattle.gv_run.specs.Made.{MadePart, MadeWhole, report_made, summary_made, entries_made, machine_made}
@@ -94,6 +96,11 @@ module _ (number : ℕ) {start d : Device} where
           pages = subst (HasMemories d) lines.machine memories;
           ran = lines.ran;
         }
+
+-- three lines, one after another
+pub said-thrice : (before one two three : List ℕ) (x y z : ReportLine) → one ≡ before ++ text_of (x ∷ []) → two ≡ one ++ text_of (y ∷ []) → three ≡ two ++ text_of (z ∷ []) → three ≡ before ++ text_of (x ∷ y ∷ z ∷ [])
+said-thrice before one two three x y z first second third =
+    said_twice before two three (x ∷ y ∷ []) (z ∷ []) (said_twice before one two (x ∷ []) (y ∷ []) first second) third
 
 -- before anything was run
 pub made-none : (number : ℕ) (d : Device) (a : Option (List ℕ)) → MadePart number d d a a
