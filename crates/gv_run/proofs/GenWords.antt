@@ -10,6 +10,6 @@ number_named None = 0
 number_named (Some Run) = 0
 number_named (Some (Gen number)) = number
 
-pub same-number : (words : List (List ℕ)) (k n : ℕ) → task_meant words ≡ Some (Gen k) → NamesGen words n → k ≡ n
+pub same-number : (words : List (List ℕ)) (k n : ℕ) → NamesGen words n → task_meant words ≡ Some (Gen k) → k ≡ n
 unfolding number_named
-same-number words k n task names = ap number_named (sym task ∙ names.task)
+same-number words k n names task = ap number_named (sym task ∙ names.task)

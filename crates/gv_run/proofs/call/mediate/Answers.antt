@@ -6,4 +6,4 @@ use Rattle.gv_run.proofs.call.mediate.Goals as goal
 
 pub returns-in-Ok-Gen-clause-made_pages : goal.returns-in-Ok-Gen-clause-made_pages
 returns-in-Ok-Gen-clause-made_pages g c = λ number names done.
-    subst (λ n. HasMemories (g.G.Gpu.state c.sum_number_up.new.gpu) (machine_made n)) (same-number _ _ _ c.in-Ok-Gen.ensures.task names) (c.sum_number_up.ensures.pages done)
+    subst (λ n. HasMemories (g.G.Gpu.state c.sum_number_up.new.gpu) (machine_made n)) (same-number _ c.in-Ok-Gen.number number names c.in-Ok-Gen.ensures.task) (c.sum_number_up.ensures.pages done)
