@@ -35,3 +35,6 @@ mod Loads
 mod Refused
 mod NextLoaded
 mod Announced
+mod Exchanging
+mod PuttingAway
+mod Bringing

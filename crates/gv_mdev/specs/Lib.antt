@@ -4,6 +4,7 @@ pub mod General
 pub mod Standing
 pub mod Idle
 pub mod Changes
+pub mod Exchange
 pub mod Reset
 pub mod Listed
 pub mod Pair

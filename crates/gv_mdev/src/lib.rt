@@ -4,6 +4,7 @@
 mod access;
 mod engine;
 mod events;
+mod exchange;
 mod fetch;
 mod laws;
 mod load;

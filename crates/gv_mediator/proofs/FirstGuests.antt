@@ -1,26 +1,24 @@
 -- All guests join, over an empty device.
-use Rattle.std.proofs.Common.{◌≡◌, ◌≢◌, ℕ, zero, suc, ◌+◌, ◌*◌, ◌<◌, ◌≤◌, ◌++◌, ◌∷◌, [], nat_le, nat_lt, ◌&&◌, if◌then◌else◌, List, All, Bool, true, false, Option, None, Some, length, map, get_or, drop, replicate, slice_index, refl, sym, ap, ◌∙◌, subst, arith}
+use Rattle.std.proofs.Common.{◌≡◌, ℕ, zero, suc, ◌+◌, ◌<◌, ◌≤◌, ◌++◌, ◌∷◌, [], nat_le, nat_lt, ◌&&◌, if◌then◌else◌, List, All, Bool, true, false, None, Some, length, map, refl, sym, ap, ◌∙◌, subst, arith}
 use Rattle.std.specs.List.{sum_by}
-use Rattle.std.proofs.Math.Seq.{drop-cons}
-use Rattle.std.proofs.lemmas.List.{append-nil, drop_all, length-map}
+use Rattle.std.proofs.lemmas.List.{append-nil, length-map}
 use Rattle.std.proofs.lemmas.List.Sums.{sum_by-cons}
 use Rattle.std.proofs.lemmas.Bool.Decides.{nat_tests}
 use Rattle.gv_types.specs.declared.ranges.Ranges.{Ranges}
 use Rattle.gv_types.specs.declared.ranges.Want.{Want}
-use Rattle.gv_balloon.specs.Shares.{all_fit, fits, given_after, next_ranges, nothing_given}
+use Rattle.gv_balloon.specs.Shares.{fits, given_after, next_ranges, nothing_given}
 use Rattle.gv_balloon.specs.declared.given.Given.{Given}
 use Rattle.gv_gpu.specs.Change.{Ran}
-use Rattle.gv_gpu.specs.Device.{Device, IsEmpty, empty_device}
-use Rattle.gv_machine.specs.Machine.{Machine, given_to, ranges_in}
+use Rattle.gv_gpu.specs.Device.{Device, IsEmpty}
+use Rattle.gv_machine.specs.Machine.{given_to, ranges_in}
 use Rattle.gv_private.specs.Device.{PrivateDevice, new_device}
-use Rattle.gv_sched.specs.Rota.{Owners, first_owners, owner_of}
+use Rattle.gv_sched.specs.Rota.{first_owners, owner_of}
 use Rattle.gv_mdev.specs.declared.mdev.Mdev.{Mdev}
 use Rattle.gv_mediator.specs.declared.guest.Guest.{Guest}
-use Rattle.gv_mediator.specs.declared.mediator.Mediator.{Mediator}
-use Rattle.gv_mediator.specs.First.{MayBegin, all_joined, first_machine, joined as with_guest, wants_of}
+use Rattle.gv_mediator.specs.First.{MayBegin, all_joined, first_machine, wants_of}
 use Rattle.gv_mediator.specs.Joining.{IsJoining, Joined, MayJoin, first_owner}
 use Rattle.gv_mediator.specs.Rota.{owners_in, owns}
-use Rattle.gv_mediator.specs.Tied.{IsAt, Tied, Ties, all_ranges, devices_in, machine_of}
+use Rattle.gv_mediator.specs.Tied.{IsAt, Ties, devices_in}
 use Rattle.gv_mdev.specs.Mdev.{private_of}
 use Rattle.gv_gtt.specs.Gtt.{number_of, ranges_of}
 use Rattle.std.proofs.lemmas.Simd.{map-map}

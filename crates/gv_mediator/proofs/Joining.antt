@@ -1,6 +1,6 @@
 -- One more guest, with the next ranges of the global table.
-use Rattle.std.proofs.Common.{◌≡◌, ◌≢◌, ℕ, ◌+◌, ◌*◌, ◌%◌, ◌<◌, ◌≤◌, nat_lt, Bool, true, false, not, cond, Option, None, Some, zero-add, List, [], ◌∷◌, ◌++◌, All, length, get_or, map, ap, sym, ◌∙◌, ⊎_elim, subst, arith, refl}
-use Rattle.std.specs.List.{AllByRecursion, sum_by}
+use Rattle.std.proofs.Common.{◌≡◌, ◌≢◌, ℕ, ◌+◌, ◌*◌, ◌<◌, ◌≤◌, nat_lt, Bool, true, false, cond, None, Some, zero-add, List, [], ◌∷◌, ◌++◌, All, length, get_or, ap, sym, ◌∙◌, ⊎_elim, subst, arith, refl}
+use Rattle.std.specs.List.{sum_by}
 use Rattle.std.proofs.lemmas.List.{append-nil, same_lists, length-map, get_or-map, get_or_default, map_push}
 use Rattle.std.proofs.lemmas.List.Elements.{All-push}
 use Rattle.std.proofs.lemmas.List.Sums.{get_or-le-sum_by, sum_by-append}
@@ -16,11 +16,10 @@ use Rattle.gv_balloon.specs.Shares.{AreAmong, AreApart, fits, next_ranges, given
 use Rattle.gv_balloon.specs.declared.given.Given.{Given}
 use Rattle.gv_balloon.proofs.Consecutive.{among-apart, apart-among, among-after}
 use Rattle.gv_gpu.specs.Change.{Ran}
-use Rattle.gv_gpu.specs.Device.{Device, Loaded}
+use Rattle.gv_gpu.specs.Device.{Device}
 use Rattle.gv_gpu.specs.Part.{frames_part, guest_part, inside, is_in_windows, is_page_of, outside, standing_part}
 use Rattle.gv_gpu.proofs.Guests.{apart-standing, frames-within}
 use Rattle.gv_gpu.proofs.Parts.{inside-kept, outside-widen}
-use Rattle.gv_gpu.proofs.Seen.{global-others}
 use Rattle.gv_gtt.specs.Gtt.{frames_of, number_of, own_pages, ranges_of, HasRoomFor}
 use Rattle.gv_guest.specs.Placed.{Hosts, nowhere}
 use Rattle.gv_machine.specs.Machine.{given_to, no_ranges}
@@ -35,10 +34,8 @@ use Rattle.gv_mediator.specs.Joining.{Joined, first_owner}
 use Rattle.gv_mediator.specs.Rota.{owns}
 use Rattle.gv_mediator.specs.Tied.{AreAllApart, IsAt, all_frames, all_live, all_ranges, devices_in}
 use Rattle.gv_mdev.proofs.Others.{device_stands, device_stays}
-use Rattle.gv_mdev.proofs.Small.{devices_are_small, windows_are_small}
 use Rattle.gv_mediator.proofs.OneGuest.{device_in, own_page, ranges-there, shown}
 use Rattle.gv_mediator.proofs.Owning.{owners-disjoint}
-use Rattle.gv_mediator.proofs.Room.{IsSmall, all-at, is-small, room-for}
 
 -- a list with one more element
 module _ {X : Type 0} (xs : List X) (x : X) where

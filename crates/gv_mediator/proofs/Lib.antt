@@ -5,3 +5,6 @@ mod Receiving
 mod Joining
 mod FirstGuests
 mod Memories
+mod Exchange
+mod Works
+mod Switching

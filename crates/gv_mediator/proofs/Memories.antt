@@ -1,17 +1,16 @@
 -- The memories of a machine that stands in a device.
-use Rattle.std.proofs.Common.{◌≡◌, ◌∷◌, [], ◌<◌, Bool, List, Option, ℕ, length, get_or, ap, sym, ◌∙◌, subst, arith}
+use Rattle.std.proofs.Common.{◌≡◌, ◌∷◌, [], ◌<◌, List, Option, ℕ, length, get_or, ap, sym, ◌∙◌, subst, arith}
 use Rattle.std.proofs.lemmas.List.{length-map, get_or_default}
 use Rattle.gv_gpu.specs.Device.{Device}
 use Rattle.gv_guest.specs.Placed.{Hosts, memory_in}
-use Rattle.gv_gtt.specs.Gtt.{frames_of, number_of}
+use Rattle.gv_gtt.specs.Gtt.{frames_of}
 use Rattle.gv_machine.specs.Machine.{device_at}
 use Rattle.gv_private.specs.Device.{PrivateDevice}
 use Rattle.gv_mdev.specs.Mdev.{private_of}
 use Rattle.gv_mdev.specs.declared.mdev.Mdev.{Mdev}
-use Rattle.gv_mediator.specs.Laws.{DevicesHaveMemories, HasMemories}
+use Rattle.gv_mediator.specs.Laws.{DevicesHaveMemories}
 use Rattle.gv_mediator.specs.Rota.{owners_in, owns}
-use Rattle.gv_mediator.specs.Tied.{IsAt, Tied, Ties, devices_in, machine_of}
-use Rattle.gv_mediator.specs.declared.mediator.Mediator.{Mediator}
+use Rattle.gv_mediator.specs.Tied.{IsAt, Ties, devices_in}
 use Rattle.gv_mediator.proofs.OneGuest.{device-there}
 
 -- the device of a guest that is there

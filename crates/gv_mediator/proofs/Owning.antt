@@ -1,5 +1,5 @@
 -- Who owns an engine, and whose context is loaded there.
-use Rattle.std.proofs.Common.{◌≡◌, ◌≢◌, ℕ, zero, suc, [], ◌∷◌, ◌<◌, ◌≤◌, ◌==◌, nat_lt, if◌then◌else◌, Bool, true, false, Option, None, Some, refl, sym, ◌∙◌, subst, arith}
+use Rattle.std.proofs.Common.{◌≡◌, ◌≢◌, ℕ, zero, suc, [], ◌∷◌, ◌<◌, ◌≤◌, nat_lt, if◌then◌else◌, Bool, true, false, Option, None, Some, refl, sym, ◌∙◌, arith}
 use Rattle.std.proofs.lemmas.Bool.Decides.{nat_tests}
 use Rattle.std.proofs.lemmas.Option.{none-some}
 use Rattle.gv_element.specs.Works.{Held, context_now}
@@ -16,6 +16,18 @@ use Rattle.gv_mdev.specs.declared.mdev.Mdev.{Mdev}
 not-both : (g k : ℕ) (owner : Option ℕ) → g ≢ k → is_guest g owner ≡ true → is_guest k owner ≡ false
 not-both g k None differ is = refl
 not-both g k (Some owner) differ is = grind (arith, nat_tests)
+
+pub below-four : (engine : ℕ) → engine < 4 → nat_lt engine 4 ≡ true
+below-four engine below = grind (arith, nat_tests)
+
+pub owner-of-engine : (s : Owners) (engine : ℕ) → engine < 4 → owners_in s engine ≡ Some (owner_of s engine)
+owner-of-engine s engine below = λ i. if below-four engine below i then Some (owner_of s engine) else None
+
+pub same-some : (g k : ℕ) → Some g ≡ Some k → g ≡ k
+same-some g k is = cc
+
+pub owns-it : (k : ℕ) → is_guest k (Some k) ≡ true
+owns-it k = grind (arith, nat_tests)
 
 -- no engine has two owners
 pub owners-disjoint : (owners : ℕ → Option ℕ) (g k : ℕ) → g ≢ k → AreDisjoint (owns owners g) (owns owners k)

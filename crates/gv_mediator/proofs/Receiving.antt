@@ -1,33 +1,35 @@
 -- The guest that takes an event, and what comes of it for the machine.
-use Rattle.std.proofs.Common.{◌≡◌, ℕ, ◌+◌, ◌*◌, ◌<◌, ◌≤◌, nat_lt, Bool, true, Option, None, Some, List, [], ◌∷◌, ◌++◌, length, map, set, get_or, Result, Ok, Err, IfOk, OnOk, IfErr, OnErr, IsErrOf, refl, sym, ap, ◌∙◌, subst, arith, if◌then◌else◌}
+use Rattle.std.proofs.Common.{◌≡◌, ℕ, ◌+◌, ◌*◌, ◌<◌, ◌≤◌, Bool, None, Some, List, [], ◌∷◌, ◌++◌, length, map, set, Result, Ok, Err, IfOk, OnOk, sym, ap, ◌∙◌, subst}
 use Rattle.std.proofs.lemmas.List.{append-nil, length-map, length-set}
-use Rattle.std.proofs.lemmas.Bool.Decides.{nat_tests}
+use Rattle.std.proofs.lemmas.Option.{none-some}
 use Rattle.std.specs.Vec.{with_item}
 use Rattle.gv_types.specs.declared.event.Event.{Event}
 use Rattle.gv_types.specs.declared.event.Event.TheVariants.{Read, Write, Turn, Switch, Move, Reset}
 use Rattle.gv_types.specs.declared.reply.Reply.{Reply}
 use Rattle.gv_types.specs.declared.reply.Stop.{Stop}
 use Rattle.gv_gpu.specs.Change.{Ran}
-use Rattle.gv_gpu.specs.Device.{Device, JournalEntry as Entry, counted}
-use Rattle.gv_gtt.specs.Gtt.{frames_of, memory_of, number_of, own_pages}
+use Rattle.gv_gpu.specs.Device.{Device, JournalEntry as Entry}
+use Rattle.gv_gtt.specs.Gtt.{frames_of, number_of, own_pages}
 use Rattle.gv_machine.specs.Course.{Course}
 use Rattle.gv_machine.specs.Machine.{Machine, Receiver, Happened, device, rota, device_at, event_receiver, guest_in, happened}
 use Rattle.gv_private.specs.Device.{PrivateDevice}
 use Rattle.gv_private.specs.Inputs.{Answered, answer}
 use Rattle.gv_private.specs.Turn.{JournalEntry}
-use Rattle.gv_sched.specs.Rota.{Owners, owner_of}
+use Rattle.gv_sched.specs.Rota.{owner_of}
 use Rattle.gv_mdev.specs.Access.{IsAccess, Replies}
-use Rattle.gv_mdev.specs.Changes.{Stops, entry_of}
+use Rattle.gv_mdev.specs.Changes.{Stops, entry_of, journalled}
 use Rattle.gv_mdev.specs.Mdev.{private_of}
-use Rattle.gv_mdev.specs.Standing.{HasRoomToLoad, Holds}
+use Rattle.gv_mdev.specs.Standing.{HasRoomToLoad}
 use Rattle.gv_mdev.specs.declared.mdev.Mdev.{Mdev}
 use Rattle.gv_mediator.specs.Event.{IsEvent, IsGuestEvent, entries_ran, event_done, received_by}
+use Rattle.gv_mediator.specs.Listed.{DeviceMayFault, DeviceMayLackMemory, EventMayFault, EventMayLackMemory, ReceiverMayFault, ReceiverMayLackMemory}
 use Rattle.gv_mediator.specs.Rota.{owners_in, owns, is_guest}
 use Rattle.gv_mediator.specs.Tied.{IsAt, Tied, Ties, devices_in, machine_of}
 use Rattle.gv_mediator.specs.declared.mediator.Mediator.{Mediator}
 use Rattle.gv_mdev.proofs.Others.{device_stands, device_stays}
 use Rattle.gv_mdev.proofs.Small.{devices_are_small, windows_are_small}
-use Rattle.gv_mediator.proofs.OneGuest.{device-there, devices-set, ties-after}
+use Rattle.gv_mediator.proofs.OneGuest.{Changed, OwnersChange, changed-kept, device-there, devices-set, idle-stays, owners-stay, ties-after}
+use Rattle.gv_mediator.proofs.Owning.{owner-of-engine, owns-it, same-some}
 use Rattle.gv_mediator.proofs.Room.{IsSmall, all-at, is-small, live-below, room-for}
 
 -- ---- results
@@ -45,21 +47,6 @@ ok-then (Err e) P T is next = tt
 takes : (r : Receiver) (k : ℕ) → guest_in r ≡ Some k → r ≡ device k
 takes (device g) k is = let same : g ≡ k = cc in ap device same
 takes (rota engine) k is = cc
-
-abbrev pub is-below : ℕ → Type 0
-is-below engine = nat_lt engine 4 ≡ true
-
-below-four : (engine : ℕ) → engine < 4 → nat_lt engine 4 ≡ true
-below-four engine below = grind (arith, nat_tests)
-
-owner-of-engine : (s : Owners) (engine : ℕ) → engine < 4 → owners_in s engine ≡ Some (owner_of s engine)
-owner-of-engine s engine below = λ i. if below-four engine below i then Some (owner_of s engine) else None
-
-same-some : (g k : ℕ) → Some g ≡ Some k → g ≡ k
-same-some g k is = cc
-
-owns-it : (k : ℕ) → is_guest k (Some k) ≡ true
-owns-it k = grind (arith, nat_tests)
 
 module _ (d : Device) (m : Mediator) (tied : Tied d m) (one : Event) (k : ℕ) (is : IsEvent (machine_of d m) one) (mine : guest_in (event_receiver (owner_of m.rota) one) ≡ Some k) where
   abbrev pub guests : List Mdev
@@ -81,7 +68,7 @@ module _ (d : Device) (m : Mediator) (tied : Tied d m) (one : Event) (k : ℕ) (
       by (Move guest frame) is mine = named guest.0 is.0 mine
       by (Reset guest) is mine = named guest.0 is mine
       by (Turn engine) is mine = tied.ties.there engine.0 k (owner-of-engine m.rota engine.0 is ∙ mine)
-      by (Switch engine) is mine = absurd is
+      by (Switch engine) is mine = absurd (none-some k mine)
 
   pub is-received : event_done (machine_of d m) one ≡ received_by (machine_of d m) one (device k)
   is-received = ap (received_by (machine_of d m) one) (takes (event_receiver (owner_of m.rota) one) k mine)
@@ -109,7 +96,7 @@ module _ (d : Device) (m : Mediator) (tied : Tied d m) (one : Event) (k : ℕ) (
         by (Move guest frame) is mine = access-of (Move guest frame) guest.0 mine is.1
         by (Reset guest) is mine = same-some guest.0 k mine ∙ sym (tied.ties.number k old here)
         by (Turn engine) is mine = (is, ap (is_guest k) (owner-of-engine m.rota engine.0 is ∙ mine) ∙ owns-it k)
-        by (Switch engine) is mine = absurd is
+        by (Switch engine) is mine = absurd (none-some k mine)
 
     small : (j : ℕ) (v : Mdev) → IsAt guests j v → IsSmall v
     small j v at = is-small v (devices_are_small d v (owns (owners_in m.rota) j) (tied.ties.holds j v at))
@@ -121,6 +108,17 @@ module _ (d : Device) (m : Mediator) (tied : Tied d m) (one : Event) (k : ℕ) (
 
     pub live-here : d.live < 131072
     live-here = subst (λ n. n < 131072) (sym tied.ties.live) (live-below guests (all-at IsSmall guests small) tied.ties.few tied.ties.eight)
+
+    -- ---- at which it may stop
+
+    receiver-is : event_receiver (owner_of m.rota) one ≡ device k
+    receiver-is = takes (event_receiver (owner_of m.rota) one) k mine
+
+    pub may-fault : DeviceMayFault (private_of d old (owns (owners_in m.rota) k)) one → EventMayFault (machine_of d m) one
+    may-fault may = subst (ReceiverMayFault (machine_of d m) one) (sym receiver-is) (subst (λ p. DeviceMayFault p one) (sym device-is) may)
+
+    pub may-lack : DeviceMayLackMemory (private_of d old (owns (owners_in m.rota) k)) one → EventMayLackMemory (machine_of d m) one
+    may-lack may = subst (ReceiverMayLackMemory (machine_of d m) one) (sym receiver-is) (subst (λ p. DeviceMayLackMemory p one) (sym device-is) may)
 
     -- ---- what comes of it
 
@@ -134,18 +132,30 @@ module _ (d : Device) (m : Mediator) (tied : Tied d m) (one : Event) (k : ℕ) (
           ∙ ap (λ (a : Answered). a.reply ∷ []) answer-same
           ∙ ap (λ (r : Reply). r ∷ []) replies.reply_is
 
+      abbrev ran : List JournalEntry
+      ran = (answer (private_of d old (owns (owners_in m.rota) k)) one).ran
+
+      changed : Changed (owns (owners_in m.rota) k) (owns (owners_in m.rota) k) (journalled d ran) e old new
+      changed = changed-kept (owns (owners_in m.rota) k) (journalled d ran) e old new replies.keeps
+
+      owners : OwnersChange (owns (owners_in m.rota) k) (owners_in m.rota) (owners_in m.rota) k (length guests)
+      owners = owners-stay d e (owners_in m.rota) guests k old new tied.ties ran replies.keeps
+
+      idle : (engine : ℕ) → owners_in m.rota engine ≡ None → e.loaded engine ≡ None
+      idle = idle-stays d e (owners_in m.rota) guests k old new tied.ties ran replies.keeps
+
       pub ties-then : Ties e (owners_in m.rota) (set guests k new)
-      ties-then = ties-after device_stands device_stays devices_are_small windows_are_small d e (owners_in m.rota) guests k old new here tied.ties (answer (private_of d old (owns (owners_in m.rota) k)) one).ran replies.keeps
+      ties-then = ties-after device_stands device_stays devices_are_small windows_are_small d e (owners_in m.rota) (owners_in m.rota) (owns (owners_in m.rota) k) guests k old new here tied.ties ran changed owners idle
 
       pub machine-then : record { devices = devices_in e (owners_in m.rota) (set guests k new); owners = owner_of m.rota } ≡ (event_done (machine_of d m) one).left
       machine-then =
           ap (λ devices. record { devices = devices; owners = owner_of m.rota })
-          (devices-set device_stands device_stays devices_are_small windows_are_small d e (owners_in m.rota) guests k old new here tied.ties (answer (private_of d old (owns (owners_in m.rota) k)) one).ran replies.keeps
+          (devices-set device_stands device_stays devices_are_small windows_are_small d e (owners_in m.rota) (owners_in m.rota) (owns (owners_in m.rota) k) guests k old new here tied.ties ran changed owners idle
           (answer (device_at (devices_in d (owners_in m.rota) guests) k) one).left (sym replies.left ∙ ap (λ (a : Answered). a.left) (sym answer-same)))
           ∙ ap (λ (c : Course Machine Happened). c.left) (sym is-received)
 
       pub tied-then : (stopped : Bool) → Tied e (record { guests = with_item m.guests k new; rota = m.rota; stopped = stopped })
-      tied-then stopped = record { ties = ties-then; guests = tied.guests ∙ sym (length-set guests k new) }
+      tied-then stopped = record { ties = ties-then; guests = tied.guests ∙ sym (length-set guests k new); engines = tied.engines }
 
       entries-same : map entry_of (answer (private_of d old (owns (owners_in m.rota) k)) one).ran ≡ entries_ran (event_done (machine_of d m) one).came
       entries-same = ap (λ (a : Answered). map entry_of a.ran) (sym answer-same) ∙ one-ran ∙ ap (λ (c : Course Machine Happened). entries_ran c.came) (sym is-received)

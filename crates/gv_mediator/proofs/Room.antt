@@ -1,8 +1,7 @@
 -- How many host pages all guests have together: there is always room.
-use Rattle.std.proofs.Common.{◌≡◌, ℕ, zero, suc, ◌+◌, ◌*◌, ◌/◌, ◌<◌, ◌≤◌, List, [], ◌∷◌, length, slice_index_or, refl, sym, subst, arith}
-use Rattle.std.specs.List.{AllByRecursion, sum_by}
+use Rattle.std.proofs.Common.{◌≡◌, ℕ, zero, suc, ◌+◌, ◌*◌, ◌/◌, ◌<◌, ◌≤◌, List, [], ◌∷◌, length, refl, subst, arith}
+use Rattle.std.specs.List.{AllByRecursion}
 use Rattle.std.proofs.lemmas.List.Sums.{sum_by-cons}
-use Rattle.gv_gpu.specs.Device.{Device}
 use Rattle.gv_gtt.specs.Gtt.{frames_of, own_pages}
 use Rattle.gv_mdev.specs.Changes.{own_live}
 use Rattle.gv_mediator.specs.Tied.{IsAt, all_frames, all_live}

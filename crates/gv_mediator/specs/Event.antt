@@ -1,5 +1,5 @@
 -- One event of the machine.
-use Rattle.std.specs.Prelude.{◌≡◌, ℕ, ◌<◌, List, [], ◌∷◌, Bool, true, length, map, slice_set}
+use Rattle.std.specs.Prelude.{◌≡◌, ℕ, ◌<◌, List, [], ◌∷◌, Bool, true, ⊤, length, map, slice_set}
 use Rattle.gv_types.specs.declared.event.Event.{Event}
 use Rattle.gv_types.specs.declared.event.Event.TheVariants.{Read, Write, Turn, Switch, Move, Reset}
 use Rattle.gv_gpu.specs.Device.{JournalEntry}
@@ -18,7 +18,12 @@ IsEvent m (Write guest place width at value) = (guest.0 < length m.devices) × I
 IsEvent m (Move guest frame) = (guest.0 < length m.devices) × IsAccess guest.0 (length (device_at m.devices guest.0).memory) (Move guest frame)
 IsEvent m (Reset guest) = guest.0 < length m.devices
 IsEvent m (Turn engine) = engine.0 < 4
-IsEvent m (Switch engine) = ⊥
+IsEvent m (Switch engine) = engine.0 < 4
+
+-- It goes to a guest's device, and not to the rota.
+abbrev pub GoesToDevice : Event → Type 0
+GoesToDevice (Switch engine) = ⊥
+GoesToDevice one = ⊤
 
 -- the same of one guest's device, by the engines that the guest owns
 abbrev pub IsGuestEvent : ℕ → ℕ → (ℕ → Bool) → Event → Type 0

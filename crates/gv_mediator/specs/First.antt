@@ -1,5 +1,5 @@
 -- The machine at first.
-use Rattle.std.specs.Prelude.{◌≡◌, ℕ, ◌+◌, ◌≤◌, List, [], ◌∷◌, ◌++◌, All, Bool, true, length, map}
+use Rattle.std.specs.Prelude.{◌≡◌, ◌≤◌, List, [], ◌∷◌, ◌++◌, All, true, length, map}
 use Rattle.std.specs.List.{sum_by}
 use Rattle.gv_balloon.specs.Shares.{all_fit, next_ranges}
 use Rattle.gv_types.specs.declared.ranges.Want.{Want}

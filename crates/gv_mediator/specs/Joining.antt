@@ -1,5 +1,5 @@
 -- The guests' devices while they are made, one after another.
-use Rattle.std.specs.Prelude.{◌≡◌, ℕ, ◌+◌, ◌<◌, ◌≤◌, nat_lt, if◌then◌else◌, List, [], ◌∷◌, All, Bool, true, false, Option, None, Some, length}
+use Rattle.std.specs.Prelude.{◌≡◌, ℕ, ◌+◌, ◌<◌, ◌≤◌, nat_lt, if◌then◌else◌, List, [], ◌∷◌, All, true, false, Option, None, Some, length}
 use Rattle.std.specs.List.{sum_by}
 use Rattle.gv_types.specs.declared.ids.Label.{Label}
 use Rattle.gv_balloon.specs.Shares.{AreAmong, fits, given_after}

@@ -1,5 +1,5 @@
 -- Who owns each engine.
-use Rattle.std.specs.Prelude.{◌≡◌, ℕ, ◌==◌, nat_lt, if◌then◌else◌, Bool, false, Option, None, Some}
+use Rattle.std.specs.Prelude.{ℕ, ◌==◌, nat_lt, if◌then◌else◌, Bool, false, Option, None, Some}
 use Rattle.gv_sched.specs.Rota.{Owners, owner_of}
 
 -- the owner of each of the four engines; in the middle of a switch an engine has none

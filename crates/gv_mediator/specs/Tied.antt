@@ -1,5 +1,5 @@
 -- How the machine stands in the shared device.
-use Rattle.std.specs.Prelude.{◌≡◌, ◌≢◌, ℕ, ◌<◌, ◌≤◌, List, Bool, false, Option, None, Some, All, length, map, slice_index_or}
+use Rattle.std.specs.Prelude.{◌≡◌, ◌≢◌, ℕ, ◌<◌, ◌≤◌, List, false, Option, None, Some, All, length, map, slice_index_or}
 use Rattle.std.specs.List.{sum_by}
 use Rattle.gv_types.specs.declared.ids.Label.{Label}
 use Rattle.gv_types.specs.declared.ranges.Ranges.{Ranges}
@@ -62,7 +62,9 @@ devices_in d owners guests = map (λ (v : Mdev). private_of d v (owns owners (nu
 abbrev pub machine_of : Device → Mediator → Machine
 machine_of d m = record { devices = devices_in d (owners_in m.rota) m.guests.items; owners = owner_of m.rota }
 
--- The guests' devices are tied to the shared one by the rota's owners, and the rota is of as many guests.
+-- The guests' devices are tied to the shared one by the rota's owners, and the rota is of as many guests and of four
+-- engines.
 pub record Tied (d : Device) (m : Mediator) : Type 0 where
   pub ties : Ties d (owners_in m.rota) m.guests.items
   pub guests : m.rota.guests ≡ length m.guests.items
+  pub engines : length m.rota.owners ≡ 4

@@ -7,14 +7,15 @@ ghost use Rattle.gv_sched.specs.Rota.{owner_of};
 ghost use Rattle.gv_private.specs.Inputs.{answer};
 ghost use Rattle.gv_mdev.specs.Access.{Replies};
 ghost use Rattle.gv_mdev.specs.Changes.{Stops};
-ghost use Rattle.gv_mediator.specs.Event.{IsEvent, IsGuestEvent, entries_ran, event_done};
+ghost use Rattle.gv_mediator.specs.Event.{GoesToDevice, IsEvent, IsGuestEvent, entries_ran, event_done};
+ghost use Rattle.gv_mediator.specs.Listed.{AnswersOnce, DeviceMayFault, DeviceMayLackMemory, EventMayFault, EventMayLackMemory};
 ghost use Rattle.gv_mdev.specs.Mdev.{private_of};
 ghost use Rattle.gv_mdev.specs.Owners.{is_here};
 ghost use Rattle.gv_mdev.specs.Standing.{HasRoomToLoad, Holds};
 ghost use Rattle.gv_mediator.specs.Tied.{Tied, machine_of};
 
 use crate::mediator::Mediator;
-use gv_gpu::Gpu;
+use gv_gpu::{Gpu, GpuFailed};
 use gv_mdev::Mdev;
 use gv_types::{Answer, Event, GuestId, Reply, Stop};
 use std::alloc::Global;
@@ -35,6 +36,9 @@ fn answer<G: Gpu>(
     requires event { IsGuestEvent (number_of device.old.gtt) (length (frames_of device.old.gtt).pages) (is_here here) event.now }
     ensures replies { IfOk result (λ reply. Replies (is_here here) (G.state gpu.old) (G.state gpu.new) device.old device.new (answer (private_of (G.state gpu.old) device.old (is_here here)) event.now) reply) }
     ensures stops { IfErr result (λ stop. Stops (is_here here) (G.state gpu.old) (G.state gpu.new) device.old stop) }
+    ensures faults { IsErrOf result Stop.DeviceFault → DeviceMayFault (private_of (G.state gpu.old) device.old (is_here here)) event.now }
+    ensures lacks { IsErrOf result Stop.OutOfMemory → DeviceMayLackMemory (private_of (G.state gpu.old) device.old (is_here here)) event.now }
+    ensures once { IfOk result (λ reply. AnswersOnce (G.state gpu.old) (G.state gpu.new) event.now reply.answer) }
 {
     match event {
         Event::Turn { engine } => {
@@ -57,7 +61,8 @@ fn answer<G: Gpu>(
 impl Mediator {
     // The guest whose device takes an event: the one that it names, or the owner of its engine.
     fn receiver(&self, event: &Event) -> GuestId
-        requires { (m : Machine) × IsEvent m event.now }
+        requires event { (m : Machine) × IsEvent m event.now }
+        requires device { GoesToDevice event.now }
         ensures { guest_in (event_receiver (owner_of self.now.rota) event.now) ≡ Some result.0 }
     {
         match event {
@@ -70,8 +75,59 @@ impl Mediator {
         }
     }
 
+    // An event that a guest's device takes.
+    fn guest_event<G: Gpu>(
+        &mut self,
+        alloc: Global,
+        gpu: &mut G,
+        event: &Event,
+    ) -> Result<Reply, Stop>
+        requires tied { Tied (G.state gpu.old) self.old }
+        requires event { IsEvent (machine_of (G.state gpu.old) self.old) event.now }
+        requires device { GoesToDevice event.now }
+        ensures reply { IfOk result (λ reply. map (λ (h : Happened). h.reply) (event_done (machine_of (G.state gpu.old) self.old) event.now).came ≡ reply ∷ []) }
+        ensures machine { OnOk result (machine_of (G.state gpu.new) self.new ≡ (event_done (machine_of (G.state gpu.old) self.old) event.now).left) }
+        ensures tied { OnOk result (Tied (G.state gpu.new) self.new) }
+        ensures ran { OnOk result (Ran (G.state gpu.old) (G.state gpu.new) (entries_ran (event_done (machine_of (G.state gpu.old) self.old) event.now).came)) }
+        ensures stopped { OnErr result (Ran (G.state gpu.old) (G.state gpu.new) []) }
+        ensures cause { IsErrOf result Stop.DeviceFault → counted (G.state gpu.old).faults ≤ (G.state gpu.new).faults }
+        ensures faults { IsErrOf result Stop.DeviceFault → EventMayFault (machine_of (G.state gpu.old) self.old) event.now }
+        ensures lacks { IsErrOf result Stop.OutOfMemory → EventMayLackMemory (machine_of (G.state gpu.old) self.old) event.now }
+        ensures once { IfOk result (λ reply. AnswersOnce (G.state gpu.old) (G.state gpu.new) event.now reply.answer) }
+    {
+        let guest = self.receiver(event);
+        let here = self.owned_by(guest);
+        let device = &mut self.guests[guest.0 as usize];
+        answer(alloc, gpu, device, guest, here, event)
+    }
+
+    // Does an event, where it goes.
+    fn received<G: Gpu>(&mut self, alloc: Global, gpu: &mut G, event: &Event) -> Result<Reply, Stop>
+        requires tied { Tied (G.state gpu.old) self.old }
+        requires event { IsEvent (machine_of (G.state gpu.old) self.old) event.now }
+        ensures reply { IfOk result (λ reply. map (λ (h : Happened). h.reply) (event_done (machine_of (G.state gpu.old) self.old) event.now).came ≡ reply ∷ []) }
+        ensures machine { OnOk result (machine_of (G.state gpu.new) self.new ≡ (event_done (machine_of (G.state gpu.old) self.old) event.now).left) }
+        ensures tied { OnOk result (Tied (G.state gpu.new) self.new) }
+        ensures ran { OnOk result (Ran (G.state gpu.old) (G.state gpu.new) (entries_ran (event_done (machine_of (G.state gpu.old) self.old) event.now).came)) }
+        ensures stopped { OnErr result (Ran (G.state gpu.old) (G.state gpu.new) []) }
+        ensures cause { IsErrOf result Stop.DeviceFault → counted (G.state gpu.old).faults ≤ (G.state gpu.new).faults }
+        ensures faults { IsErrOf result Stop.DeviceFault → EventMayFault (machine_of (G.state gpu.old) self.old) event.now }
+        ensures lacks { IsErrOf result Stop.OutOfMemory → EventMayLackMemory (machine_of (G.state gpu.old) self.old) event.now }
+        ensures once { IfOk result (λ reply. AnswersOnce (G.state gpu.old) (G.state gpu.new) event.now reply.answer) }
+    {
+        match event {
+            Event::Switch { engine } => match self.switch(gpu, *engine) {
+                Ok(reply) => Ok(reply),
+                Err(GpuFailed) => Err(Stop::DeviceFault),
+            },
+            _ => self.guest_event(alloc, gpu, event),
+        }
+    }
+
     /// One event: the reply is that of the machine, which is as after the event then. After a `Stop` no further event is
-    /// taken.
+    /// taken. `DeviceFault` comes only at a turn, at a reset, at an access at which the guest's device may fault, and at a
+    /// switch by which the owner changes; `OutOfMemory` only at a turn, at a move, and at a write of a live table or of
+    /// notify.
     pub fn event<G: Gpu>(
         &mut self,
         alloc: Global,
@@ -88,11 +144,11 @@ impl Mediator {
         ensures stopped { OnErr result (Ran (G.state gpu.old) (G.state gpu.new) []) }
         ensures stops { self.new.stopped ≡ is_err result }
         ensures cause { IsErrOf result Stop.DeviceFault → counted (G.state gpu.old).faults ≤ (G.state gpu.new).faults }
+        ensures faults { IsErrOf result Stop.DeviceFault → EventMayFault (machine_of (G.state gpu.old) self.old) event.now }
+        ensures lacks { IsErrOf result Stop.OutOfMemory → EventMayLackMemory (machine_of (G.state gpu.old) self.old) event.now }
+        ensures once { IfOk result (λ reply. AnswersOnce (G.state gpu.old) (G.state gpu.new) event.now reply.answer) }
     {
-        let guest = self.receiver(event);
-        let here = self.owned_by(guest);
-        let device = &mut self.guests[guest.0 as usize];
-        let answer = answer(alloc, gpu, device, guest, here, event);
+        let answer = self.received(alloc, gpu, event);
         self.stopped = answer.is_err();
         answer
     }

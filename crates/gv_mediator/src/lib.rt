@@ -7,6 +7,7 @@ mod begin;
 mod guest;
 mod laws;
 mod mediator;
+mod switch;
 
 pub use guest::Guest;
 pub use laws::devices_have_memories;

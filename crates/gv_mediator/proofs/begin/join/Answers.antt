@@ -1,11 +1,9 @@
-use Rattle.std.proofs.Common.{◌≡◌, ℕ, ◌+◌, ◌<◌, ◌≤◌, ◌++◌, ◌∷◌, [], Bool, List, true, length, refl, ap, sym, ◌∙◌, subst, arith}
+use Rattle.std.proofs.Common.{◌≡◌, ◌+◌, ◌≤◌, ◌++◌, ◌∷◌, [], List, length, ap, sym, ◌∙◌, subst}
 use Rattle.gv_balloon.specs.Shares.{AreAmong, given_after, next_ranges}
 use Rattle.gv_balloon.specs.declared.given.Given.{Given}
-use Rattle.gv_gpu.specs.Device.{Device}
 use Rattle.gv_gpu.specs.Part.{frames_part, outside}
-use Rattle.gv_gtt.specs.Gtt.{frames_of, number_of, ranges_of}
+use Rattle.gv_gtt.specs.Gtt.{number_of, ranges_of}
 use Rattle.gv_private.specs.Device.{PrivateDevice, new_device}
-use Rattle.gv_mdev.specs.Changes.{own_live}
 use Rattle.gv_mediator.specs.Joining.{Joined, first_owner}
 use Rattle.gv_mdev.specs.Mdev.{private_of}
 use Rattle.gv_mediator.specs.Rota.{owns}

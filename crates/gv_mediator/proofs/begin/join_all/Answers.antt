@@ -1,8 +1,7 @@
-use Rattle.std.proofs.Common.{◌≡◌, ℕ, ◌+◌, ◌<◌, ◌≤◌, ◌++◌, ◌∷◌, [], List, true, length, drop, get_or, refl, ap, sym, ◌∙◌, subst, arith}
+use Rattle.std.proofs.Common.{◌+◌, ◌∷◌, length, drop, get_or, ap, sym, ◌∙◌, subst, arith}
 use Rattle.std.proofs.Math.Seq.{drop-cons}
 use Rattle.std.proofs.lemmas.List.{append-nil, drop_all}
 use Rattle.gv_balloon.specs.Shares.{nothing_given}
-use Rattle.gv_gpu.specs.Change.{Ran}
 use Rattle.gv_mediator.specs.declared.guest.Guest.{Guest}
 use Rattle.gv_mediator.specs.First.{all_joined}
 use Rattle.gv_mediator.specs.Joining.{IsJoining, first_owner}

@@ -1,5 +1,5 @@
 use Rattle.std.proofs.Common.{length, refl, ap, sym, ◌∙◌, subst}
-use Rattle.gv_sched.specs.Rota.{Owners, first_owners, owner_of}
+use Rattle.gv_sched.specs.Rota.{Owners, owner_of}
 use Rattle.gv_mediator.specs.Rota.{owners_in}
 use Rattle.gv_mediator.specs.Tied.{Ties, devices_in}
 use Rattle.gv_mediator.proofs.FirstGuests.{machine-begun, ties-begun}
@@ -21,4 +21,5 @@ returns-clause-tied g c =
     record {
       ties = subst (λ (s : Owners). Ties d (owners_in s) devices) (sym c.new.ensures) (ties-begun d devices c.args.guests.now c.requires.begin made.joined.0 made.joined.1 made.count made.few (length c.args.guests.now) refl);
       guests = ap (λ (s : Owners). s.guests) c.new.ensures ∙ sym made.count;
+      engines = ap (λ (s : Owners). length s.owners) c.new.ensures;
     }

@@ -1,0 +1,49 @@
+-- At which events the device may fault, and which may lack memory; a turn as one step of the device.
+use Rattle.std.specs.Prelude.{◌≢◌, ⊤}
+use Rattle.gv_types.specs.declared.event.Event.{Event}
+use Rattle.gv_types.specs.declared.event.Event.TheVariants.{Turn, Reset}
+use Rattle.gv_types.specs.declared.reply.Answer.{Answer}
+use Rattle.gv_types.specs.declared.reply.Answer.TheVariants as answers
+use Rattle.gv_gpu.specs.Device.{Device}
+use Rattle.gv_machine.specs.Machine.{Machine, Receiver, device, rota, device_at, event_receiver, owner_after}
+use Rattle.gv_private.specs.Device.{PrivateDevice}
+use Rattle.gv_mdev.specs.Access.{AccessMayFault, AccessMayLackMemory}
+use Rattle.gv_mdev.specs.Turn.{StepsOnce}
+
+-- ---- faults
+
+-- of a guest's device: a turn, a reset, and an access at which it may fault
+abbrev pub DeviceMayFault : PrivateDevice → Event → Type 0
+DeviceMayFault p (Turn engine) = ⊤
+DeviceMayFault p (Reset guest) = ⊤
+DeviceMayFault p one = AccessMayFault p one
+
+-- and a switch by which the owner changes
+abbrev pub ReceiverMayFault : Machine → Event → Receiver → Type 0
+ReceiverMayFault m one (device g) = DeviceMayFault (device_at m.devices g) one
+ReceiverMayFault m one (rota engine) = owner_after m engine.0 ≢ m.owners engine.0
+
+abbrev pub EventMayFault : Machine → Event → Type 0
+EventMayFault m one = ReceiverMayFault m one (event_receiver m.owners one)
+
+-- ---- want of memory
+
+-- of a guest's device: a turn, and an access that may lack memory, a move among them
+abbrev pub DeviceMayLackMemory : PrivateDevice → Event → Type 0
+DeviceMayLackMemory p (Turn engine) = ⊤
+DeviceMayLackMemory p one = AccessMayLackMemory p one
+
+-- a switch takes none
+abbrev pub ReceiverMayLackMemory : Machine → Event → Receiver → Type 0
+ReceiverMayLackMemory m one (device g) = DeviceMayLackMemory (device_at m.devices g) one
+ReceiverMayLackMemory m one (rota engine) = ⊥
+
+abbrev pub EventMayLackMemory : Machine → Event → Type 0
+EventMayLackMemory m one = ReceiverMayLackMemory m one (event_receiver m.owners one)
+
+-- ---- steps
+
+-- a turn on which a command ran, or waited, is one step of the device
+abbrev pub AnswersOnce : Device → Device → Event → Answer → Type 0
+AnswersOnce d e (Turn engine) (answers.Turn outcome) = StepsOnce d e engine.0 outcome
+AnswersOnce d e one answer = ⊤
