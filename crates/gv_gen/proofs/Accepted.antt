@@ -35,27 +35,61 @@ module _ (g v : ℕ) (there : g < 2) (small : v < 2 ^ 31) (rest : List Line) (be
 
   -- the set-up of a guest
   set_up : (begun : Bool) → AreAccepted (two_known begun) (set_up_lines g ++ rest)
-  set_up begun =
-      (is_there, (omega arith, omega arith, omega arith, omega arith, omega arith, (omega arith, (omega arith, (omega arith, (omega arith, (omega arith, tt)))))),
-      (is_there, (omega arith, omega arith, omega arith, omega arith, omega arith, (omega arith, tt)),
-      (is_there, (omega arith, omega arith, omega arith, omega arith, omega arith, (omega arith, tt)),
-      (is_there, (omega arith, omega arith, omega arith, omega arith, omega arith, (omega arith, tt)),
-      (is_there, (omega arith, omega arith, omega arith, omega arith, omega arith, (omega arith, tt)),
-      (is_there, (omega arith, omega arith, omega arith, omega arith, omega arith, (omega arith, tt)),
-      (is_there, (omega arith, omega arith, omega arith, omega arith, omega arith, (omega arith, tt)),
-      (is_there, (omega arith, omega arith, omega arith, omega arith, omega arith, (omega arith, tt)),
-      (is_there, (omega arith, omega arith, omega arith, omega arith, omega arith, (omega arith, (omega arith, (omega arith, tt)))),
-      behind)))))))))
+  set_up begun = (
+    is_there,
+    (omega arith, omega arith, omega arith, omega arith, omega arith, (omega arith, (omega arith, (omega arith, (omega arith, (omega arith, tt)))))),
+    (
+      is_there,
+      (omega arith, omega arith, omega arith, omega arith, omega arith, (omega arith, tt)),
+      (
+        is_there,
+        (omega arith, omega arith, omega arith, omega arith, omega arith, (omega arith, tt)),
+        (
+          is_there,
+          (omega arith, omega arith, omega arith, omega arith, omega arith, (omega arith, tt)),
+          (
+            is_there,
+            (omega arith, omega arith, omega arith, omega arith, omega arith, (omega arith, tt)),
+            (
+              is_there,
+              (omega arith, omega arith, omega arith, omega arith, omega arith, (omega arith, tt)),
+              (
+                is_there,
+                (omega arith, omega arith, omega arith, omega arith, omega arith, (omega arith, tt)),
+                (
+                  is_there,
+                  (omega arith, omega arith, omega arith, omega arith, omega arith, (omega arith, tt)),
+                  (
+                    is_there,
+                    (omega arith, omega arith, omega arith, omega arith, omega arith, (omega arith, (omega arith, (omega arith, tt)))),
+                    behind,
+                  ),
+                ),
+              ),
+            ),
+          ),
+        ),
+      ),
+    ),
+  )
 
   -- a round
   round : (kind : Kind) → AreAccepted (two_known true) (lines_by kind g v ++ rest)
   round Store = (is_there, (omega arith, omega arith, omega arith, omega arith, omega arith, (omega arith, tt)), behind)
   round Load = (is_there, (omega arith, omega arith, omega arith), behind)
-  round Submit =
-      (is_there, (omega arith, omega arith, omega arith, omega arith, omega arith, (omega arith, (omega arith, (omega arith, (omega arith, tt))))),
-      (is_there, (omega arith, omega arith, omega arith, omega arith, omega arith, (omega arith, tt)),
-      (is_there, (omega arith, omega arith, omega arith, omega arith, omega arith, (omega arith, tt)),
-      (ap (λ b. b && true) is_there, (omega arith, omega arith, omega arith, omega arith), behind))))
+  round Submit = (
+    is_there,
+    (omega arith, omega arith, omega arith, omega arith, omega arith, (omega arith, (omega arith, (omega arith, (omega arith, tt))))),
+    (
+      is_there,
+      (omega arith, omega arith, omega arith, omega arith, omega arith, (omega arith, tt)),
+      (
+        is_there,
+        (omega arith, omega arith, omega arith, omega arith, omega arith, (omega arith, tt)),
+        (ap (λ b. b && true) is_there, (omega arith, omega arith, omega arith, omega arith), behind),
+      ),
+    ),
+  )
   round Turns = (refl, (omega arith, omega arith, omega arith), behind)
   round Switch = (refl, omega arith, behind)
   round Map = (is_there, (omega arith, omega arith, omega arith, omega arith, omega arith, (omega arith, tt)), behind)
@@ -71,10 +105,16 @@ rounds (suc n) x =
 
 -- each line of a number's script is accepted
 pub all_accepted : (number : ℕ) → AreAccepted nothing_known (script_of_number number)
-all_accepted number =
-    (refl, (omega arith, omega arith), (refl, (omega arith, omega arith),
+all_accepted number = (
+  refl,
+  (omega arith, omega arith),
+  (
+    refl,
+    (omega arith, omega arith),
     set_up 0 0 (omega arith) (omega arith) (set_up_lines 1 ++ rounds_from 4096 number)
-    (set_up 1 0 (omega arith) (omega arith) (rounds_from 4096 number) (rounds 4096 number) true) false))
+        (set_up 1 0 (omega arith) (omega arith) (rounds_from 4096 number) (rounds 4096 number) true) false,
+  ),
+)
 
 -- ---- what that makes of the script
 

@@ -182,7 +182,10 @@ fn a_report_is_summed_up(rt: HostRuntime) -> Result<(), Fail> {
     assert_eq!(rt; writer.push(b"ne\n"), Ok(()));
     assert_eq!(rt; writer.flush_to(&mut outlet, &mut sink), Ok(()));
     let totals = outlet.totals();
-    assert_eq!(rt; (totals.lines, totals.bytes, totals.fold), (1, 5, 95_767_752));
+    assert_eq!(rt;
+        (totals.lines, totals.bytes, totals.fold),
+        (1, 5, 95_767_752)
+    );
     Ok(())
 }
 

@@ -73,11 +73,7 @@ impl ReportWriter {
     }
 
     /// Passes what is held on to an outlet: to its sink, once it is half a piece or more, or into its totals.
-    pub fn pass_to<K: Sink>(
-        &mut self,
-        outlet: &mut Outlet,
-        sink: &mut K,
-    ) -> Result<(), SinkFailed>
+    pub fn pass_to<K: Sink>(&mut self, outlet: &mut Outlet, sink: &mut K) -> Result<(), SinkFailed>
         ensures passes { Passes self.old self.new (got outlet.old (K.held sink.old)) (got outlet.new (K.held sink.new)) }
         ensures cause { HasCause (K.faults sink.old) (K.faults sink.new) result }
     {
@@ -91,11 +87,7 @@ impl ReportWriter {
     }
 
     /// Passes all that is held on to an outlet. Where that fails, what wasn't written stays held.
-    pub fn flush_to<K: Sink>(
-        &mut self,
-        outlet: &mut Outlet,
-        sink: &mut K,
-    ) -> Result<(), SinkFailed>
+    pub fn flush_to<K: Sink>(&mut self, outlet: &mut Outlet, sink: &mut K) -> Result<(), SinkFailed>
         ensures ok { OnOk result (self.new ≡ []) }
         ensures passes { Passes self.old self.new (got outlet.old (K.held sink.old)) (got outlet.new (K.held sink.new)) }
         ensures cause { HasCause (K.faults sink.old) (K.faults sink.new) result }

@@ -2,6 +2,7 @@ pub mod Ahead
 pub mod OneEvent
 pub mod EventLines
 pub mod Finishing
+pub mod GenWords
 pub mod Guests
 pub mod Journal
 pub mod Left
@@ -11,5 +12,6 @@ pub mod ManyTurns
 pub mod Memories
 pub mod Saying
 pub mod Streaming
+pub mod Summed
 pub mod WholeScript
 pub mod Words

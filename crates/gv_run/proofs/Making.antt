@@ -128,10 +128,10 @@ module _ {all : Script} {start : Device} {old : Got} {lines : List Line} {known 
 -- ---- the script of a number
 
 module _ (number : ℕ) where
-  pub made-front : {a b : Got} → GetsFront (text_of (script_said new_machine (script_made number))) a b → GetsFront (report_made number) a b
+  pub made-front : (a b : Got) → GetsFront (text_of (script_said new_machine (script_made number))) a b → GetsFront (report_made number) a b
   unfolding report_made
-  made-front front = front
+  made-front a b front = front
 
-  pub made-ran : {d e : Device} → RanPart d e (entries_in (course_of new_machine (script_made number)).came) → RanPart d e (entries_made number)
+  pub made-ran : (d e : Device) → RanPart d e (entries_in (course_of new_machine (script_made number)).came) → RanPart d e (entries_made number)
   unfolding entries_made
-  made-ran part = part
+  made-ran d e part = part

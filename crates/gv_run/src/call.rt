@@ -116,12 +116,7 @@ fn run_source<S: Source, K: Sink, G: Gpu>(
 }
 
 // The command `gen` with this number.
-fn sum_number_up<K: Sink, G: Gpu>(
-    alloc: Global,
-    number: u32,
-    sink: &mut K,
-    gpu: &mut G,
-) -> Status
+fn sum_number_up<K: Sink, G: Gpu>(alloc: Global, number: u32, sink: &mut K, gpu: &mut G) -> Status
     requires empty { IsEmpty (G.state gpu.old) }
     ensures summary { result ≡ Status.Done → Appends (K.held sink.old) (K.held sink.new) (summary_made number) }
     ensures part { WritesFront (summary_made number) (K.held sink.old) (K.held sink.new) }

@@ -189,7 +189,15 @@ impl Run {
     {
         devices_have_memories();
         let count = self.known.guests;
-        tell_ending(&mut self.report, outlet, sink, gpu, &self.stage, count, ending)?;
+        tell_ending(
+            &mut self.report,
+            outlet,
+            sink,
+            gpu,
+            &self.stage,
+            count,
+            ending,
+        )?;
         self.report.flush_to(outlet, sink)?;
         Ok(())
     }

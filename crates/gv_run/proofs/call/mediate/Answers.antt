@@ -1,17 +1,9 @@
-use Rattle.gv_machine.specs.Report.{report_of}
-use Rattle.gv_machine.proofs.Isolation.{each_guest_is_told_its_own}
-use Rattle.gv_run.proofs.Journal.{journal-part}
-use Rattle.gv_run.proofs.Streaming.{if_some}
+use Rattle.std.proofs.Common.{◌∙◌, ap, subst, Some}
+use Rattle.gv_mediator.specs.Laws.{HasMemories}
+use Rattle.gv_run.specs.Made.{machine_made}
+use Rattle.gv_run.proofs.GenWords.{same-number}
 use Rattle.gv_run.proofs.call.mediate.Goals as goal
 
-pub returns-in-Ok-clause-private : goal.returns-in-Ok-clause-private
-returns-in-Ok-clause-private g c = λ told.
-    if_some (g.S.Source.left c.args.source.now) (λ bytes is done. (report_of bytes, done.report, each_guest_is_told_its_own bytes)) c.in-Ok.ensures.finishes
-
-pub returns-in-Ok-clause-journal_part : goal.returns-in-Ok-clause-journal_part
-returns-in-Ok-clause-journal_part g c =
-    if_some (g.S.Source.left c.args.source.now) (λ bytes is begun. journal-part c.requires.empty begun.ran) c.run_script.ensures.begun
-
-pub returns-in-Err-clause-journal_part : goal.returns-in-Err-clause-journal_part
-returns-in-Err-clause-journal_part g c =
-    if_some (g.S.Source.left c.args.source.now) (λ bytes is begun. journal-part c.requires.empty begun.ran) c.run_script.ensures.begun
+pub returns-in-Ok-Gen-clause-made_pages : goal.returns-in-Ok-Gen-clause-made_pages
+returns-in-Ok-Gen-clause-made_pages g c = λ number names done.
+    subst (λ n. HasMemories (g.G.Gpu.state c.sum_number_up.new.gpu) (machine_made n)) (same-number _ c.in-Ok-Gen.number number names (c.in-Ok-Gen.ensures.task ∙ ap Some c.in-Ok-Gen.field-0-is)) (c.sum_number_up.ensures.pages done)
