@@ -11,14 +11,14 @@ use Rattle.gv_gtt.specs.Gtt.{number_of, ranges_of}
 use Rattle.gv_machine.specs.Machine.{no_ranges}
 use Rattle.gv_private.specs.Device.{new_device}
 use Rattle.gv_sched.specs.Rota.{Owners}
-use Rattle.gv_mdev.specs.Changes.{journalled}
-use Rattle.gv_mdev.specs.Exchange.{Exchanges, owning}
-use Rattle.gv_mdev.specs.Mdev.{private_of}
-use Rattle.gv_mdev.specs.declared.mdev.Mdev.{Mdev}
+use Rattle.gv_vgpu.specs.Changes.{journalled}
+use Rattle.gv_vgpu.specs.Exchange.{Exchanges, owning}
+use Rattle.gv_vgpu.specs.Vgpu.{private_of}
+use Rattle.gv_vgpu.specs.declared.vgpu.Vgpu.{Vgpu}
 use Rattle.gv_mediator.specs.Rota.{is_guest, owners_in, owns}
 use Rattle.gv_mediator.specs.Tied.{IsAt, Ties, devices_in}
-use Rattle.gv_mdev.proofs.Others.{device_stands, device_stays}
-use Rattle.gv_mdev.proofs.Small.{devices_are_small, windows_are_small}
+use Rattle.gv_vgpu.proofs.Others.{device_stands, device_stays}
+use Rattle.gv_vgpu.proofs.Small.{devices_are_small, windows_are_small}
 use Rattle.gv_mediator.proofs.OneGuest.{Changed, OwnersChange, device-there, devices-set, loaded-same, ties-after}
 use Rattle.gv_mediator.proofs.Owning.{below-four, owners-disjoint, owns-it, same-some}
 
@@ -94,7 +94,7 @@ module _ (s : Owners) (engine n : ℕ) (small : engine < 4) (four : length s.own
 
 -- ---- a call by which owners change
 
-module _ (d e : Device) (before after : ℕ → Option ℕ) (engines : ℕ → Bool) (guests : List Mdev) (g : ℕ) (old new : Mdev) (here : IsAt guests g old) (ties : Ties d before guests)
+module _ (d e : Device) (before after : ℕ → Option ℕ) (engines : ℕ → Bool) (guests : List Vgpu) (g : ℕ) (old new : Vgpu) (here : IsAt guests g old) (ties : Ties d before guests)
     (exchanges : Exchanges engines (owns before g) (owns after g) d e old new) (owners : OwnersChange engines before after g (length guests)) (idle : (engine : ℕ) → after engine ≡ None → e.loaded engine ≡ None) where
   same : outside (guest_part (number_of old.gtt) (ranges_of old.gtt) engines) e ≡ outside (guest_part (number_of old.gtt) (ranges_of old.gtt) engines) (journalled d [])
   same = exchanges.outside ∙ ap (λ journal. outside (guest_part (number_of old.gtt) (ranges_of old.gtt) engines) (record d { journal = journal })) (sym (append-nil d.journal))
@@ -114,7 +114,7 @@ module _ (d e : Device) (before after : ℕ → Option ℕ) (engines : ℕ → B
       ∙ ap (set (devices_in d before guests) g) (sym was)
       ∙ set-get_or (devices_in d before guests) g (new_device 0 0 no_ranges)
 
-pub ran-exchanged : (engines before after : ℕ → Bool) (d e : Device) (old new : Mdev) → Exchanges engines before after d e old new → Ran d e []
+pub ran-exchanged : (engines before after : ℕ → Bool) (d e : Device) (old new : Vgpu) → Exchanges engines before after d e old new → Ran d e []
 ran-exchanged engines before after d e old new exchanges = record {
   journal = ap (λ (x : Device). x.journal) exchanges.outside ∙ sym (append-nil d.journal);
   strays = ap (λ (x : Device). x.strays) exchanges.outside;
@@ -122,7 +122,7 @@ ran-exchanged engines before after d e old new exchanges = record {
 
 -- ---- put away
 
-module _ (d e : Device) (owners : ℕ → Option ℕ) (guests : List Mdev) (g engine : ℕ) (old new : Mdev) (here : IsAt guests g old) (ties : Ties d owners guests) (mine : owners engine ≡ Some g)
+module _ (d e : Device) (owners : ℕ → Option ℕ) (guests : List Vgpu) (g engine : ℕ) (old new : Vgpu) (here : IsAt guests g old) (ties : Ties d owners guests) (mine : owners engine ≡ Some g)
     (own : ℕ → Bool) (is : own ≡ owns owners g) (exchanges : Exchanges own own (owning own engine false) d e old new) (idle : e.loaded engine ≡ None) where
   abbrev pub between : ℕ → Option ℕ
   between = put owners engine None
@@ -161,7 +161,7 @@ module _ (d e : Device) (owners : ℕ → Option ℕ) (guests : List Mdev) (g en
 
 -- ---- brought
 
-module _ (d e : Device) (owners : ℕ → Option ℕ) (guests : List Mdev) (n engine : ℕ) (v : Mdev) (here : IsAt guests n v) (ties : Ties d owners guests) (free : owners engine ≡ None)
+module _ (d e : Device) (owners : ℕ → Option ℕ) (guests : List Vgpu) (n engine : ℕ) (v : Vgpu) (here : IsAt guests n v) (ties : Ties d owners guests) (free : owners engine ≡ None)
     (own : ℕ → Bool) (is : own ≡ owns owners n) (exchanges : Exchanges (owning own engine true) own (owning own engine true) d e v v) where
   abbrev pub afterwards : ℕ → Option ℕ
   afterwards = put owners engine (Some n)

@@ -13,13 +13,13 @@ use Rattle.gv_gpu.specs.Device.{Device, IsEmpty}
 use Rattle.gv_machine.specs.Machine.{given_to, ranges_in}
 use Rattle.gv_private.specs.Device.{PrivateDevice, new_device}
 use Rattle.gv_sched.specs.Rota.{first_owners, owner_of}
-use Rattle.gv_mdev.specs.declared.mdev.Mdev.{Mdev}
+use Rattle.gv_vgpu.specs.declared.vgpu.Vgpu.{Vgpu}
 use Rattle.gv_mediator.specs.declared.guest.Guest.{Guest}
 use Rattle.gv_mediator.specs.First.{MayBegin, all_joined, first_machine, wants_of}
 use Rattle.gv_mediator.specs.Joining.{IsJoining, Joined, MayJoin, first_owner}
 use Rattle.gv_mediator.specs.Rota.{owners_in, owns}
 use Rattle.gv_mediator.specs.Tied.{IsAt, Ties, devices_in}
-use Rattle.gv_mdev.specs.Mdev.{private_of}
+use Rattle.gv_vgpu.specs.Vgpu.{private_of}
 use Rattle.gv_gtt.specs.Gtt.{number_of, ranges_of}
 use Rattle.std.proofs.lemmas.Simd.{map-map}
 use Rattle.gv_mmio.specs.Mmio.{ranges_of as mmio_ranges}
@@ -91,14 +91,14 @@ starts d guests begin empty =
       ran = record { journal = sym (append-nil d.journal); strays = refl };
     }
 
-same-maps : (f h : Mdev → Ranges) (xs : List Mdev) → ((k : ℕ) (v : Mdev) → IsAt xs k v → f v ≡ h v) → map f xs ≡ map h xs
+same-maps : (f h : Vgpu → Ranges) (xs : List Vgpu) → ((k : ℕ) (v : Vgpu) → IsAt xs k v → f v ≡ h v) → map f xs ≡ map h xs
 same-maps f h [] each = refl
 same-maps f h (x ∷ xs) each = λ i. each 0 x (omega arith, refl) i ∷ same-maps f h xs (λ k v at. each (suc k) v (let there = at.0 in omega arith, at.1)) i
 
 -- ---- one after another
 
 -- the guest that is next
-module _ (start d : Device) (devices : List Mdev) (given : Given) (guest : Guest) (more all : List Guest) (joining : IsJoining start d devices given (guest ∷ more) all) where
+module _ (start d : Device) (devices : List Vgpu) (given : Given) (guest : Guest) (more all : List Guest) (joining : IsJoining start d devices given (guest ∷ more) all) where
   sum-next : sum_by (λ (g : Guest). g.frames) (guest ∷ more) ≡ guest.frames + sum_by (λ (g : Guest). g.frames) more
   sum-next = sum_by-cons (λ (g : Guest). g.frames) guest more
 
@@ -109,7 +109,7 @@ module _ (start d : Device) (devices : List Mdev) (given : Given) (guest : Guest
   next-memory = let few = joining.few in let sum = sum-next in omega arith
 
   pub then-joining :
-      (e : Device) (new : List Mdev) (given_then : Given) → Joined e new given_then → given_then ≡ given_after given guest.want
+      (e : Device) (new : List Vgpu) (given_then : Given) → Joined e new given_then → given_then ≡ given_after given guest.want
       → devices_in e first_owner new ≡ devices_in d first_owner devices ++ new_device (length devices) guest.frames (next_ranges given guest.want) ∷ [] → length new ≡ length devices + 1 → e.live ≡ d.live + guest.frames → Ran d e []
       → IsJoining start e new given_then more all
   then-joining e new given_then joined is devices_are count live ran = record {
@@ -129,15 +129,15 @@ module _ (start d : Device) (devices : List Mdev) (given : Given) (guest : Guest
       now = devices_in d first_owner devices
 
       many : length devices ≡ length (devices_in d first_owner devices)
-      many = sym (length-map devices (λ (v : Mdev). private_of d v (owns first_owner (number_of v.gtt))))
+      many = sym (length-map devices (λ (v : Vgpu). private_of d v (owns first_owner (number_of v.gtt))))
 
       same-device : devices_in d first_owner devices ++ new_device (length devices) guest.frames (next_ranges given guest.want) ∷ []
           ≡ devices_in d first_owner devices ++ new_device (length (devices_in d first_owner devices)) guest.frames (next_ranges (given_to (ranges_in (devices_in d first_owner devices))) guest.want) ∷ []
       same-device = λ i. devices_in d first_owner devices ++ new_device (many i) guest.frames (next_ranges (given-same i) guest.want) ∷ []
         where
           given-same : given ≡ given_to (ranges_in (devices_in d first_owner devices))
-          given-same = sym (ap given_to (map-map (λ (p : PrivateDevice). p.ranges) (λ (v : Mdev). private_of d v (owns first_owner (number_of v.gtt))) devices
-              ∙ same-maps (λ (v : Mdev). mmio_ranges v.mmio) (λ (v : Mdev). ranges_of v.gtt) devices (λ k v at. (joining.joined.holds k v at).ranges)) ∙ joining.joined.given_is)
+          given-same = sym (ap given_to (map-map (λ (p : PrivateDevice). p.ranges) (λ (v : Vgpu). private_of d v (owns first_owner (number_of v.gtt))) devices
+              ∙ same-maps (λ (v : Vgpu). mmio_ranges v.mmio) (λ (v : Vgpu). ranges_of v.gtt) devices (λ k v at. (joining.joined.holds k v at).ranges)) ∙ joining.joined.given_is)
 
 -- ---- in the end
 
@@ -170,7 +170,7 @@ owner-all n = λ i k. each k i
     each (suc (suc (suc zero))) = refl
     each (suc (suc (suc (suc k)))) = refl
 
-pub ties-first : (d : Device) (devices : List Mdev) (given : Given) → Joined d devices given → 1 ≤ length devices → length devices ≤ 8 → d.live ≤ 16384 → Ties d first_owner devices
+pub ties-first : (d : Device) (devices : List Vgpu) (given : Given) → Joined d devices given → 1 ≤ length devices → length devices ≤ 8 → d.live ≤ 16384 → Ties d first_owner devices
 ties-first d devices given joined some eight few = record {
   number = joined.number;
   holds = joined.holds;
@@ -185,7 +185,7 @@ ties-first d devices given joined some eight few = record {
 }
 
 -- The guests' devices are tied, and stand for the first machine.
-module _ (d : Device) (devices : List Mdev) (all : List Guest) (begin : MayBegin all) (given : Given) (joined : Joined d devices given) (count : length devices ≡ length all) (frames : d.live ≤ 16384) where
+module _ (d : Device) (devices : List Vgpu) (all : List Guest) (begin : MayBegin all) (given : Given) (joined : Joined d devices given) (count : length devices ≡ length all) (frames : d.live ≤ 16384) where
   pub ties-begun : (n : ℕ) → n ≡ length all → Ties d (owners_in (first_owners n)) devices
   ties-begun n is =
       subst (λ owners. Ties d owners devices) (sym (owners-first n))

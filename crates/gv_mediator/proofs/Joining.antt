@@ -25,15 +25,15 @@ use Rattle.gv_guest.specs.Placed.{Hosts, nowhere}
 use Rattle.gv_machine.specs.Machine.{given_to, no_ranges}
 use Rattle.gv_private.specs.Device.{PrivateDevice}
 use Rattle.gv_sggtt.specs.Mirror.{AreAbsent, IsAbsent}
-use Rattle.gv_mdev.specs.Changes.{own_live}
-use Rattle.gv_mdev.specs.Idle.{AreIdle, WindowsAreAbsent}
-use Rattle.gv_mdev.specs.Mdev.{private_of}
-use Rattle.gv_mdev.specs.Standing.{Holds, IsAway}
-use Rattle.gv_mdev.specs.declared.mdev.Mdev.{Mdev}
+use Rattle.gv_vgpu.specs.Changes.{own_live}
+use Rattle.gv_vgpu.specs.Idle.{AreIdle, WindowsAreAbsent}
+use Rattle.gv_vgpu.specs.Vgpu.{private_of}
+use Rattle.gv_vgpu.specs.Standing.{Holds, IsAway}
+use Rattle.gv_vgpu.specs.declared.vgpu.Vgpu.{Vgpu}
 use Rattle.gv_mediator.specs.Joining.{Joined, first_owner}
 use Rattle.gv_mediator.specs.Rota.{owns}
 use Rattle.gv_mediator.specs.Tied.{AreAllApart, IsAt, all_frames, all_live, all_ranges, devices_in}
-use Rattle.gv_mdev.proofs.Others.{device_stands, device_stays}
+use Rattle.gv_vgpu.proofs.Others.{device_stands, device_stays}
 use Rattle.gv_mediator.proofs.OneGuest.{device_in, own_page, ranges-there, shown}
 use Rattle.gv_mediator.proofs.Owning.{owners-disjoint}
 
@@ -97,7 +97,7 @@ given_to-push all given want is =
 -- ---- before it is made
 
 -- no page and no entry is a further guest's
-module _ (d : Device) (guests : List Mdev) (given : Given) (joined : Joined d guests given) where
+module _ (d : Device) (guests : List Vgpu) (given : Given) (joined : Joined d guests given) where
   not_page : (n : ℕ) (l : Label) → d.label n ≡ Some l → l.guest.0 ≢ length guests
   not_page n l is same = let there = joined.pages n l is in absurd (omega arith)
 
@@ -145,7 +145,7 @@ module _ (d : Device) (guests : List Mdev) (given : Given) (joined : Joined d gu
 
 -- ---- then
 
-module _ (d e : Device) (guests : List Mdev) (v : Mdev) (given : Given) (want : Want) (joined : Joined d guests given) (fit : fits given want ≡ true)
+module _ (d e : Device) (guests : List Vgpu) (v : Vgpu) (given : Given) (want : Want) (joined : Joined d guests given) (fit : fits given want ≡ true)
     (last : number_of v.gtt ≡ length guests) (next : ranges_of v.gtt ≡ next_ranges given want) (holds : Holds e v (owns first_owner (number_of v.gtt)))
     (live : e.live ≡ d.live + length (frames_of v.gtt).pages) (own : own_live v ≡ length (frames_of v.gtt).pages)
     (few : d.live + length (frames_of v.gtt).pages ≤ 16384) (eight : length guests < 8)
@@ -162,7 +162,7 @@ module _ (d e : Device) (guests : List Mdev) (v : Mdev) (given : Given) (want : 
   among_at k h = joined.among k no_ranges h
 
   there : (k : ℕ) → k < length guests → k < length (all_ranges guests)
-  there k h = subst (λ n. k < n) (sym (length-map guests (λ (v : Mdev). ranges_of v.gtt))) h
+  there k h = subst (λ n. k < n) (sym (length-map guests (λ (v : Vgpu). ranges_of v.gtt))) h
 
   apart_from : (k : ℕ) → k < length (all_ranges guests) → AreApart (ranges_of v.gtt) (get_or (all_ranges guests) k no_ranges)
   apart_from k h = subst (λ r. AreApart r (get_or (all_ranges guests) k no_ranges)) (sym next) (apart-among given want (get_or (all_ranges guests) k no_ranges) (among_at k h) fit)
@@ -170,19 +170,19 @@ module _ (d e : Device) (guests : List Mdev) (v : Mdev) (given : Given) (want : 
   apart_to : (k : ℕ) → k < length (all_ranges guests) → AreApart (get_or (all_ranges guests) k no_ranges) (ranges_of v.gtt)
   apart_to k h = subst (AreApart (get_or (all_ranges guests) k no_ranges)) (sym next) (among-apart given want (get_or (all_ranges guests) k no_ranges) (among_at k h) fit)
 
-  apart_guest : (k : ℕ) (x : Mdev) → IsAt guests k x → AreApart (ranges_of v.gtt) (ranges_of x.gtt)
+  apart_guest : (k : ℕ) (x : Vgpu) → IsAt guests k x → AreApart (ranges_of v.gtt) (ranges_of x.gtt)
   apart_guest k x at = subst (AreApart (ranges_of v.gtt)) (ranges-there guests k x at) (apart_from k (there k at.0))
 
-  is_last : (k : ℕ) (x : Mdev) → IsAt (guests ++ v ∷ []) k x → k ≡ length guests → v ≡ x
+  is_last : (k : ℕ) (x : Vgpu) → IsAt (guests ++ v ∷ []) k x → k ≡ length guests → v ≡ x
   is_last k x at is = sym (at_end guests v x) ∙ ap (λ i. get_or (guests ++ v ∷ []) i x) (sym is) ∙ at.1
 
-  old_at : (k : ℕ) (x : Mdev) → k ≢ length guests → IsAt (guests ++ v ∷ []) k x → IsAt guests k x
+  old_at : (k : ℕ) (x : Vgpu) → k ≢ length guests → IsAt (guests ++ v ∷ []) k x → IsAt guests k x
   old_at k x differ at = let h = earlier guests v k at.0 differ in (h, sym (at_front guests v k x h) ∙ at.1)
 
-  other_number : (k : ℕ) (x : Mdev) → IsAt guests k x → number_of v.gtt ≢ number_of x.gtt
+  other_number : (k : ℕ) (x : Vgpu) → IsAt guests k x → number_of v.gtt ≢ number_of x.gtt
   other_number k x at = let number = joined.number k x at in let h = at.0 in λ is. absurd (omega arith)
 
-  left : (k : ℕ) (x : Mdev) → IsAt guests k x → inside (standing_part (number_of x.gtt) (ranges_of x.gtt) (owns first_owner k)) e ≡ inside (standing_part (number_of x.gtt) (ranges_of x.gtt) (owns first_owner k)) d
+  left : (k : ℕ) (x : Vgpu) → IsAt guests k x → inside (standing_part (number_of x.gtt) (ranges_of x.gtt) (owns first_owner k)) e ≡ inside (standing_part (number_of x.gtt) (ranges_of x.gtt) (owns first_owner k)) d
   left k x at =
       inside-kept (guest_part (number_of v.gtt) (ranges_of v.gtt) mine) (standing_part (number_of x.gtt) (ranges_of x.gtt) (owns first_owner k)) d e
       (apart-standing (number_of v.gtt) (number_of x.gtt) (ranges_of v.gtt) (ranges_of x.gtt) (other_number k x at) holds.parts (joined.holds k x at).parts (apart_guest k x at) mine (owns first_owner k)
@@ -192,7 +192,7 @@ module _ (d e : Device) (guests : List Mdev) (v : Mdev) (given : Given) (want : 
   idle_now : (engine : ℕ) → e.loaded engine ≡ None
   idle_now engine = ap (λ (x : Device). x.loaded engine) frames ∙ joined.idle engine
 
-  away : (k : ℕ) (x : Mdev) → IsAway e (number_of x.gtt) (owns first_owner k)
+  away : (k : ℕ) (x : Vgpu) → IsAway e (number_of x.gtt) (owns first_owner k)
   away k x engine below other l is = absurd (none-some l (sym (idle_now engine) ∙ is))
 
   -- ---- how many pages
@@ -201,7 +201,7 @@ module _ (d e : Device) (guests : List Mdev) (v : Mdev) (given : Given) (want : 
   all_live-push = sum_by-append own_live guests (v ∷ []) ∙ ap (λ n. all_live guests + n) (zero-add (own_live v))
 
   all_frames-push : all_frames (guests ++ v ∷ []) ≡ all_frames guests + length (frames_of v.gtt).pages
-  all_frames-push = sum_by-append (λ (x : Mdev). length (frames_of x.gtt).pages) guests (v ∷ []) ∙ ap (λ n. all_frames guests + n) (zero-add (length (frames_of v.gtt).pages))
+  all_frames-push = sum_by-append (λ (x : Vgpu). length (frames_of x.gtt).pages) guests (v ∷ []) ∙ ap (λ n. all_frames guests + n) (zero-add (length (frames_of v.gtt).pages))
 
   live_now : e.live ≡ all_live (guests ++ v ∷ [])
   live_now = live ∙ ap (λ n. n + length (frames_of v.gtt).pages) joined.live ∙ ap (λ n. all_live guests + n) (sym own) ∙ sym all_live-push
@@ -215,12 +215,12 @@ module _ (d e : Device) (guests : List Mdev) (v : Mdev) (given : Given) (want : 
   live_few : e.live ≤ 16384
   live_few = subst (λ n. n ≤ 16384) (sym live) few
 
-  room : (k : ℕ) (x : Mdev) → IsAt guests k x → HasRoomFor e x.gtt
+  room : (k : ℕ) (x : Vgpu) → IsAt guests k x → HasRoomFor e x.gtt
   room k x at = room-less e.live (length (frames_of x.gtt).pages) (own_pages x.gtt) live_few below
     where
       below : length (frames_of x.gtt).pages ≤ e.live
       below =
-          let part : length (frames_of x.gtt).pages ≤ all_frames guests = subst (λ y. length (frames_of y.gtt).pages ≤ all_frames guests) at.1 (get_or-le-sum_by (λ (x : Mdev). length (frames_of x.gtt).pages) guests k x at.0) in
+          let part : length (frames_of x.gtt).pages ≤ all_frames guests = subst (λ y. length (frames_of y.gtt).pages ≤ all_frames guests) at.1 (get_or-le-sum_by (λ (x : Vgpu). length (frames_of x.gtt).pages) guests k x at.0) in
           let was = joined.frames in
           let now = live in
           omega arith
@@ -228,12 +228,12 @@ module _ (d e : Device) (guests : List Mdev) (v : Mdev) (given : Given) (want : 
   -- ---- all of it again
 
   pub all_ranges-push : all_ranges (guests ++ v ∷ []) ≡ all_ranges guests ++ ranges_of v.gtt ∷ []
-  all_ranges-push = map_push (λ (v : Mdev). ranges_of v.gtt) guests v
+  all_ranges-push = map_push (λ (v : Vgpu). ranges_of v.gtt) guests v
 
   all_ranges-next : all_ranges (guests ++ v ∷ []) ≡ all_ranges guests ++ next_ranges given want ∷ []
   all_ranges-next = all_ranges-push ∙ ap (λ (r : Ranges). all_ranges guests ++ r ∷ []) next
 
-  holds_other : (k : ℕ) (x : Mdev) → IsAt guests k x → Holds e x (owns first_owner k)
+  holds_other : (k : ℕ) (x : Vgpu) → IsAt guests k x → Holds e x (owns first_owner k)
   holds_other k x at = device_stands d e x (owns first_owner k) (joined.holds k x at) (left k x at) (away k x) (room k x at)
 
   more : length (guests ++ v ∷ []) ≡ length guests + 1
@@ -250,7 +250,7 @@ module _ (d e : Device) (guests : List Mdev) (v : Mdev) (given : Given) (want : 
   pub joined-then : AreAmong (given_after given want) (next_ranges given want) → Joined e (guests ++ v ∷ []) (given_after given want)
   joined-then among = record {
     number = λ k x at. ⊎_elim
-        (λ is. ap (λ (v : Mdev). number_of v.gtt) (sym (is_last k x at is)) ∙ last ∙ sym is)
+        (λ is. ap (λ (v : Vgpu). number_of v.gtt) (sym (is_last k x at is)) ∙ last ∙ sym is)
         (λ differ. joined.number k x (old_at k x differ at))
         (cases_eq k (length guests));
     holds = λ k x at. ⊎_elim

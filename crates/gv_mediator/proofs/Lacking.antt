@@ -8,8 +8,8 @@ use Rattle.gv_element.specs.Works.{Held}
 use Rattle.gv_gpu.specs.Device.{Device}
 use Rattle.gv_gtt.specs.Gtt.{number_of}
 use Rattle.gv_private.specs.Turn.{turned}
-use Rattle.gv_mdev.specs.Mdev.{element_in, engine_at, private_of}
-use Rattle.gv_mdev.specs.declared.mdev.Mdev.{Mdev}
+use Rattle.gv_vgpu.specs.Vgpu.{element_in, engine_at, private_of}
+use Rattle.gv_vgpu.specs.declared.vgpu.Vgpu.{Vgpu}
 use Rattle.gv_mediator.specs.Listed.{DeviceMayLackMemory}
 
 -- an error of another call
@@ -21,6 +21,6 @@ some-in d guest engine here None is = is
 some-in d guest engine here (Some x) is = refl
 
 pub turn-lacks :
-    (d : Device) (v : Mdev) (here : ℕ → Bool) (engine : EngineId) → (turned (private_of d v here) engine.0).outcome ≢ Idle → (IsSome (engine_at v engine.0).element → d.spare ≡ 0)
+    (d : Device) (v : Vgpu) (here : ℕ → Bool) (engine : EngineId) → (turned (private_of d v here) engine.0).outcome ≢ Idle → (IsSome (engine_at v engine.0).element → d.spare ≡ 0)
     → DeviceMayLackMemory d (private_of d v here) (Turn engine)
 turn-lacks d v here engine busy spare = (busy, λ some. spare (some-in d (number_of v.gtt) engine.0 (here engine.0) (engine_at v engine.0).element some))

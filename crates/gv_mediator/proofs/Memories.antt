@@ -6,19 +6,19 @@ use Rattle.gv_guest.specs.Placed.{Hosts, memory_in}
 use Rattle.gv_gtt.specs.Gtt.{frames_of}
 use Rattle.gv_machine.specs.Machine.{device_at}
 use Rattle.gv_private.specs.Device.{PrivateDevice}
-use Rattle.gv_mdev.specs.Mdev.{private_of}
-use Rattle.gv_mdev.specs.declared.mdev.Mdev.{Mdev}
+use Rattle.gv_vgpu.specs.Vgpu.{private_of}
+use Rattle.gv_vgpu.specs.declared.vgpu.Vgpu.{Vgpu}
 use Rattle.gv_mediator.specs.Laws.{DevicesHaveMemories}
 use Rattle.gv_mediator.specs.Rota.{owners_in, owns}
 use Rattle.gv_mediator.specs.Tied.{IsAt, Ties, devices_in}
 use Rattle.gv_mediator.proofs.OneGuest.{device-there}
 
 -- the device of a guest that is there
-pub device-at : (d : Device) (owners : ℕ → Option ℕ) (guests : List Mdev) (k : ℕ) (v : Mdev) → Ties d owners guests → IsAt guests k v → device_at (devices_in d owners guests) k ≡ private_of d v (owns owners k)
+pub device-at : (d : Device) (owners : ℕ → Option ℕ) (guests : List Vgpu) (k : ℕ) (v : Vgpu) → Ties d owners guests → IsAt guests k v → device_at (devices_in d owners guests) k ≡ private_of d v (owns owners k)
 device-at d owners guests k v ties at = device-there d owners guests k v at ∙ ap (λ n. private_of d v (owns owners n)) (ties.number k v at)
 
 one-memory :
-    (d : Device) (owners : ℕ → Option ℕ) (guests : List Mdev) (g : ℕ) (v : Mdev) → Ties d owners guests → IsAt guests g v
+    (d : Device) (owners : ℕ → Option ℕ) (guests : List Vgpu) (g : ℕ) (v : Vgpu) → Ties d owners guests → IsAt guests g v
     → (pages : List ℕ) × Hosts d (record { guest = g; pages = pages }) × (memory_in d (record { guest = g; pages = pages }) ≡ (device_at (devices_in d owners guests) g).memory)
 one-memory d owners guests g v ties at =
     let is : frames_of v.gtt ≡ record { guest = g; pages = (frames_of v.gtt).pages } = ap (λ n. record (frames_of v.gtt) { guest = n }) (ties.number g v at) in (
@@ -27,7 +27,7 @@ one-memory d owners guests g v ties at =
       ap (λ (p : PrivateDevice). p.memory) (sym (device-at d owners guests g v ties at)),
     )
 
-all-memories : (d : Device) (owners : ℕ → Option ℕ) (guests : List Mdev) → Ties d owners guests → (g : ℕ) → g < length (devices_in d owners guests)
+all-memories : (d : Device) (owners : ℕ → Option ℕ) (guests : List Vgpu) → Ties d owners guests → (g : ℕ) → g < length (devices_in d owners guests)
     → (pages : List ℕ) × Hosts d (record { guest = g; pages = pages }) × (memory_in d (record { guest = g; pages = pages }) ≡ (device_at (devices_in d owners guests) g).memory)
 all-memories d owners [] ties g h = absurd (omega arith)
 all-memories d owners (first ∷ others) ties g h =

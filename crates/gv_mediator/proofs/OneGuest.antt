@@ -20,25 +20,25 @@ use Rattle.gv_machine.specs.Machine.{no_ranges}
 use Rattle.gv_private.specs.Device.{PrivateDevice, new_device}
 use Rattle.gv_private.specs.Turn.{JournalEntry}
 use Rattle.gv_sggtt.specs.Mirror.{IsAbsent}
-use Rattle.gv_mdev.specs.Changes.{Keeps, LiveMoves, journalled, own_live}
-use Rattle.gv_mdev.specs.Laws.{DeviceStands, DeviceStays, DevicesAreSmall, WindowsAreSmall}
-use Rattle.gv_mdev.specs.Mdev.{private_of}
-use Rattle.gv_mdev.specs.Standing.{Holds, IsAway}
-use Rattle.gv_mdev.specs.declared.mdev.Mdev.{Mdev}
+use Rattle.gv_vgpu.specs.Changes.{Keeps, LiveMoves, journalled, own_live}
+use Rattle.gv_vgpu.specs.Laws.{DeviceStands, DeviceStays, DevicesAreSmall, WindowsAreSmall}
+use Rattle.gv_vgpu.specs.Vgpu.{private_of}
+use Rattle.gv_vgpu.specs.Standing.{Holds, IsAway}
+use Rattle.gv_vgpu.specs.declared.vgpu.Vgpu.{Vgpu}
 use Rattle.gv_mediator.specs.Rota.{is_guest, owns}
 use Rattle.gv_mediator.specs.Tied.{IsAt, Ties, AreAllApart, all_frames, all_live, all_ranges, devices_in}
 use Rattle.gv_mediator.proofs.Owning.{loaded-owner, owners-disjoint}
 use Rattle.gv_mediator.proofs.Room.{IsSmall, all-at, is-small, room-for}
 
 -- the ranges of a guest, among those of all
-pub ranges-there : (guests : List Mdev) (k : ℕ) (v : Mdev) → IsAt guests k v → get_or (all_ranges guests) k no_ranges ≡ ranges_of v.gtt
-ranges-there guests k v at = get_or-map (λ (v : Mdev). ranges_of v.gtt) guests k v no_ranges at.0 ∙ ap (λ (v : Mdev). ranges_of v.gtt) at.1
+pub ranges-there : (guests : List Vgpu) (k : ℕ) (v : Vgpu) → IsAt guests k v → get_or (all_ranges guests) k no_ranges ≡ ranges_of v.gtt
+ranges-there guests k v at = get_or-map (λ (v : Vgpu). ranges_of v.gtt) guests k v no_ranges at.0 ∙ ap (λ (v : Vgpu). ranges_of v.gtt) at.1
 
-abbrev pub device_in : Device → (ℕ → Option ℕ) → Mdev → PrivateDevice
+abbrev pub device_in : Device → (ℕ → Option ℕ) → Vgpu → PrivateDevice
 device_in d owners v = private_of d v (owns owners (number_of v.gtt))
 
 -- the device of a guest that is there
-pub device-there : (d : Device) (owners : ℕ → Option ℕ) (guests : List Mdev) (g : ℕ) (v : Mdev) → IsAt guests g v → get_or (devices_in d owners guests) g (new_device 0 0 no_ranges) ≡ device_in d owners v
+pub device-there : (d : Device) (owners : ℕ → Option ℕ) (guests : List Vgpu) (g : ℕ) (v : Vgpu) → IsAt guests g v → get_or (devices_in d owners guests) g (new_device 0 0 no_ranges) ≡ device_in d owners v
 device-there d owners guests g v at = get_or-map (device_in d owners) guests g v (new_device 0 0 no_ranges) at.0 ∙ ap (device_in d owners) at.1
 
 pub shown : (b : Bool) (l : Label) (x : Option Label) → cond b None x ≡ Some l → x ≡ Some l
@@ -49,7 +49,7 @@ pub own_page : (g : ℕ) (l : Label) → is_page_of g (Some l) ≡ true → l.gu
 own_page g l is = grind (arith, nat_tests)
 
 -- What a call leaves of one guest's device. The guest owns these engines then, and the call changed these.
-pub record Changed (engines after : ℕ → Bool) (d e : Device) (old new : Mdev) : Type 0 where
+pub record Changed (engines after : ℕ → Bool) (d e : Device) (old new : Vgpu) : Type 0 where
   pub holds : Holds e new after
   pub number : number_of new.gtt ≡ number_of old.gtt
   pub frames : length (frames_of new.gtt).pages ≡ length (frames_of old.gtt).pages
@@ -57,7 +57,7 @@ pub record Changed (engines after : ℕ → Bool) (d e : Device) (old new : Mdev
   pub outside : outside (guest_part (number_of old.gtt) (ranges_of old.gtt) engines) e ≡ outside (guest_part (number_of old.gtt) (ranges_of old.gtt) engines) d
   pub live : LiveMoves d e (own_live old) (own_live new)
 
-pub changed-kept : (here : ℕ → Bool) (d e : Device) (old new : Mdev) → Keeps here d e old new → Changed here here d e old new
+pub changed-kept : (here : ℕ → Bool) (d e : Device) (old new : Vgpu) → Keeps here d e old new → Changed here here d e old new
 changed-kept here d e old new keeps = record { holds = keeps.holds; number = keeps.number; frames = keeps.frames; ranges = keeps.ranges; outside = keeps.outside; live = keeps.live }
 
 -- Who owns engines before and after a call of guest g. The engines that it changes are no other guest's, and each other
@@ -76,7 +76,7 @@ not-owned false b own free = refl
 not-owned true b own free = let not = free refl in cc
 
 module _ (stands : DeviceStands) (stays : DeviceStays) (small : DevicesAreSmall) (windows : WindowsAreSmall)
-    (d e : Device) (before after : ℕ → Option ℕ) (engines : ℕ → Bool) (guests : List Mdev) (g : ℕ) (old new : Mdev) (here : IsAt guests g old) (ties : Ties d before guests) (ran : List JournalEntry)
+    (d e : Device) (before after : ℕ → Option ℕ) (engines : ℕ → Bool) (guests : List Vgpu) (g : ℕ) (old new : Vgpu) (here : IsAt guests g old) (ties : Ties d before guests) (ran : List JournalEntry)
     (changed : Changed engines (owns after g) (journalled d ran) e old new) (owners : OwnersChange engines before after g (length guests)) (idle : (engine : ℕ) → after engine ≡ None → e.loaded engine ≡ None) where
   there : g < length guests
   there = here.0
@@ -89,36 +89,36 @@ module _ (stands : DeviceStands) (stays : DeviceStays) (small : DevicesAreSmall)
 
   -- ---- places in the list
 
-  old_at : (k : ℕ) (x : Mdev) → k ≢ g → IsAt (set guests g new) k x → IsAt guests k x
+  old_at : (k : ℕ) (x : Vgpu) → k ≢ g → IsAt (set guests g new) k x → IsAt guests k x
   old_at k x differ there = (subst (λ n. k < n) (length-set guests g new) there.0, sym (get_or-set_other guests g k new x differ) ∙ there.1)
 
-  new_at : (k : ℕ) (x : Mdev) → k ≡ g → IsAt (set guests g new) k x → new ≡ x
+  new_at : (k : ℕ) (x : Vgpu) → k ≡ g → IsAt (set guests g new) k x → new ≡ x
   new_at k x is within = sym (get_or-set_same guests g new x there) ∙ ap (λ i. get_or (set guests g new) i x) (sym is) ∙ within.1
 
   among : (k : ℕ) → k < length guests → k < length (all_ranges guests)
-  among k h = subst (λ n. k < n) (sym (length-map guests (λ (v : Mdev). ranges_of v.gtt))) h
+  among k h = subst (λ n. k < n) (sym (length-map guests (λ (v : Vgpu). ranges_of v.gtt))) h
 
   pub ranges-set : all_ranges (set guests g new) ≡ all_ranges guests
   ranges-set =
-      map-set (λ (v : Mdev). ranges_of v.gtt) guests g new
+      map-set (λ (v : Vgpu). ranges_of v.gtt) guests g new
       ∙ ap (set (all_ranges guests) g) (changed.ranges ∙ sym (ranges-there guests g old here))
       ∙ set-get_or (all_ranges guests) g no_ranges
 
   -- ---- the others
 
-  apart : (k : ℕ) (x : Mdev) → IsAt guests k x → k ≢ g → AreApart (ranges_of old.gtt) (ranges_of x.gtt)
+  apart : (k : ℕ) (x : Vgpu) → IsAt guests k x → k ≢ g → AreApart (ranges_of old.gtt) (ranges_of x.gtt)
   apart k x within differ =
       let all = ties.apart g k (λ is. differ (sym is)) (among g there) (among k within.0) in
       subst (λ r. AreApart r (ranges_of x.gtt)) (ranges-there guests g old here) (subst (AreApart (get_or (all_ranges guests) g no_ranges)) (ranges-there guests k x within) all)
 
-  others : (k : ℕ) (x : Mdev) → IsAt guests k x → k ≢ g → number_of old.gtt ≢ number_of x.gtt
+  others : (k : ℕ) (x : Vgpu) → IsAt guests k x → k ≢ g → number_of old.gtt ≢ number_of x.gtt
   others k x within differ = λ is. differ (sym (ties.number k x within) ∙ sym is ∙ number)
 
-  parts : (k : ℕ) (x : Mdev) → IsAt guests k x → InParts (ranges_of x.gtt)
+  parts : (k : ℕ) (x : Vgpu) → IsAt guests k x → InParts (ranges_of x.gtt)
   parts k x within = (ties.holds k x within).parts
 
   -- their parts of the device are as they were
-  left : (k : ℕ) (x : Mdev) → IsAt guests k x → k ≢ g → inside (standing_part (number_of x.gtt) (ranges_of x.gtt) (owns before k)) e ≡ inside (standing_part (number_of x.gtt) (ranges_of x.gtt) (owns before k)) d
+  left : (k : ℕ) (x : Vgpu) → IsAt guests k x → k ≢ g → inside (standing_part (number_of x.gtt) (ranges_of x.gtt) (owns before k)) e ≡ inside (standing_part (number_of x.gtt) (ranges_of x.gtt) (owns before k)) d
   left k x within differ =
       inside-kept (guest_part (number_of old.gtt) (ranges_of old.gtt) engines) (standing_part (number_of x.gtt) (ranges_of x.gtt) (owns before k)) (journalled d ran) e
       (apart-standing (number_of old.gtt) (number_of x.gtt) (ranges_of old.gtt) (ranges_of x.gtt) (others k x within differ) (parts g old here) (parts k x within) (apart k x within differ) engines (owns before k) (owners.free k differ))
@@ -126,7 +126,7 @@ module _ (stands : DeviceStands) (stays : DeviceStays) (small : DevicesAreSmall)
 
   -- ---- loaded contexts
 
-  numbered : (k : ℕ) (x : Mdev) → IsAt guests k x → (h : ℕ) → h ≢ k → (l : Loaded) → l.owner ≡ h → l.owner ≢ number_of x.gtt
+  numbered : (k : ℕ) (x : Vgpu) → IsAt guests k x → (h : ℕ) → h ≢ k → (l : Loaded) → l.owner ≡ h → l.owner ≢ number_of x.gtt
   numbered k x within h differ l is = λ same. differ (sym is ∙ same ∙ ties.number k x within)
 
   not_k : (k h : ℕ) → is_guest k (Some h) ≡ false → h ≢ k
@@ -138,7 +138,7 @@ module _ (stands : DeviceStands) (stays : DeviceStays) (small : DevicesAreSmall)
       let own : owns before h engine ≡ true = sym (ap (λ (f : ℕ → Bool). f engine) (owners.same h another)) ∙ own_now in
       (own, loaded-same (number_of old.gtt) (ranges_of old.gtt) engines (journalled d ran) e changed.outside engine (not-owned (engines engine) (owns before h engine) own (owners.free h another engine)))
 
-  away : (k : ℕ) (x : Mdev) → IsAt guests k x → k ≢ g → IsAway e (number_of x.gtt) (owns after k)
+  away : (k : ℕ) (x : Vgpu) → IsAt guests k x → k ≢ g → IsAway e (number_of x.gtt) (owns after k)
   away k x within differ engine below other l is = by (after engine) refl
     where
       by : (owner : Option ℕ) → after engine ≡ owner → l.owner ≢ number_of x.gtt
@@ -171,13 +171,13 @@ module _ (stands : DeviceStands) (stays : DeviceStays) (small : DevicesAreSmall)
       (λ differ. let was = old_at k v differ within in is-small v (small d v (owns before k) (ties.holds k v was)))
       (cases_eq k g))
 
-  sums : (f : Mdev → ℕ) → sum_by f (set guests g new) + f old ≡ sum_by f guests + f new
+  sums : (f : Vgpu → ℕ) → sum_by f (set guests g new) + f old ≡ sum_by f guests + f new
   sums f = subst (λ v. sum_by f (set guests g new) + f v ≡ sum_by f guests + f new) at (sum_by-set f guests g new old there)
 
   own-within : own_live old ≤ d.live
   own-within = subst (λ n. own_live old ≤ n) (sym ties.live) (within_sum guests g old here)
     where
-      within_sum : (xs : List Mdev) (k : ℕ) (v : Mdev) → IsAt xs k v → own_live v ≤ all_live xs
+      within_sum : (xs : List Vgpu) (k : ℕ) (v : Vgpu) → IsAt xs k v → own_live v ≤ all_live xs
       within_sum xs k v within = subst (λ y. own_live y ≤ all_live xs) within.1 (get_or-le-sum_by own_live xs k v within.0)
 
   live-sum : (a b before after sum moved : ℕ) → a + before ≡ b + after → moved + before ≡ sum + after → b ≡ sum → a ≡ moved
@@ -192,7 +192,7 @@ module _ (stands : DeviceStands) (stays : DeviceStays) (small : DevicesAreSmall)
   frames-set : all_frames (set guests g new) ≡ all_frames guests
   frames-set =
       frames-sum (all_frames (set guests g new)) (length (frames_of old.gtt).pages) (all_frames guests)
-      (sums (λ (v : Mdev). length (frames_of v.gtt).pages) ∙ ap (λ n. all_frames guests + n) changed.frames)
+      (sums (λ (v : Vgpu). length (frames_of v.gtt).pages) ∙ ap (λ n. all_frames guests + n) changed.frames)
 
   new_few : all_frames (set guests g new) ≤ 16384
   new_few = subst (λ n. n ≤ 16384) (sym frames-set) ties.few
@@ -203,7 +203,7 @@ module _ (stands : DeviceStands) (stays : DeviceStays) (small : DevicesAreSmall)
   room-less : (l f p : ℕ) → l + (4 * f + 338) ≤ 131072 + p → l + (4 * f + 64) ≤ 131072 + p
   room-less l f p room = omega arith
 
-  room : (k : ℕ) (x : Mdev) → IsAt guests k x → k ≢ g → HasRoomFor e x.gtt
+  room : (k : ℕ) (x : Vgpu) → IsAt guests k x → k ≢ g → HasRoomFor e x.gtt
   room k x within differ =
       let placed : IsAt (set guests g new) k x = (subst (λ n. k < n) (sym (length-set guests g new)) within.0, get_or-set_other guests g k new x differ ∙ within.1) in
       room-less e.live (length (frames_of x.gtt).pages) (own_pages x.gtt)
@@ -212,7 +212,7 @@ module _ (stands : DeviceStands) (stays : DeviceStays) (small : DevicesAreSmall)
 
   -- ---- all of it again
 
-  holds-other : (k : ℕ) (x : Mdev) → IsAt guests k x → k ≢ g → Holds e x (owns after k)
+  holds-other : (k : ℕ) (x : Vgpu) → IsAt guests k x → k ≢ g → Holds e x (owns after k)
   holds-other k x within differ =
       let gone = subst (IsAway e (number_of x.gtt)) (owners.same k differ) (away k x within differ) in
       subst (Holds e x) (sym (owners.same k differ)) (stands d e x (owns before k) (ties.holds k x within) (left k x within differ) gone (room k x within differ))
@@ -232,7 +232,7 @@ module _ (stands : DeviceStands) (stays : DeviceStays) (small : DevicesAreSmall)
   pub ties-after : Ties e after (set guests g new)
   ties-after = record {
     number = λ k x within. ⊎_elim
-        (λ is. ap (λ (v : Mdev). number_of v.gtt) (sym (new_at k x is within)) ∙ changed.number ∙ number ∙ sym is)
+        (λ is. ap (λ (v : Vgpu). number_of v.gtt) (sym (new_at k x is within)) ∙ changed.number ∙ number ∙ sym is)
         (λ differ. ties.number k x (old_at k x differ within))
         (cases_eq k g);
     holds = λ k x within. ⊎_elim
@@ -278,7 +278,7 @@ module _ (stands : DeviceStands) (stays : DeviceStays) (small : DevicesAreSmall)
 
 -- ---- a call that keeps owners
 
-module _ (d e : Device) (owners : ℕ → Option ℕ) (guests : List Mdev) (g : ℕ) (old new : Mdev) (ties : Ties d owners guests) (ran : List JournalEntry) (keeps : Keeps (owns owners g) (journalled d ran) e old new) where
+module _ (d e : Device) (owners : ℕ → Option ℕ) (guests : List Vgpu) (g : ℕ) (old new : Vgpu) (ties : Ties d owners guests) (ran : List JournalEntry) (keeps : Keeps (owns owners g) (journalled d ran) e old new) where
   pub owners-stay : OwnersChange (owns owners g) owners owners g (length guests)
   owners-stay = record { free = λ k differ. owners-disjoint owners g k (λ is. differ (sym is)); same = λ k differ. refl; there = ties.there }
 

@@ -6,12 +6,12 @@ use Rattle.gv_element.specs.Works.{Held, context_now}
 use Rattle.gv_gpu.specs.Device.{Device, Loaded}
 use Rattle.gv_gpu.specs.Part.{AreDisjoint}
 use Rattle.gv_gtt.specs.Gtt.{number_of}
-use Rattle.gv_mdev.specs.Mdev.{engine_at}
-use Rattle.gv_mdev.specs.Standing.{Holds, StandsOn}
-use Rattle.gv_mdev.specs.Owners.{is_here}
+use Rattle.gv_vgpu.specs.Vgpu.{engine_at}
+use Rattle.gv_vgpu.specs.Standing.{Holds, StandsOn}
+use Rattle.gv_vgpu.specs.Owners.{is_here}
 use Rattle.gv_sched.specs.Rota.{Owners, owner_of}
 use Rattle.gv_mediator.specs.Rota.{is_guest, owners_in, owns}
-use Rattle.gv_mdev.specs.declared.mdev.Mdev.{Mdev}
+use Rattle.gv_vgpu.specs.declared.vgpu.Vgpu.{Vgpu}
 
 not-both : (g k : ℕ) (owner : Option ℕ) → g ≢ k → is_guest g owner ≡ true → is_guest k owner ≡ false
 not-both g k None differ is = refl
@@ -37,7 +37,7 @@ some-same : (l m : Loaded) → Some l ≡ Some m → l ≡ m
 some-same l m is = cc
 
 -- The context that is loaded on an engine of a guest's is the guest's own.
-pub loaded-owner : (d : Device) (v : Mdev) (here : ℕ → Bool) (engine : ℕ) → Holds d v here → engine < 4 → here engine ≡ true → (l : Loaded) → d.loaded engine ≡ Some l → l.owner ≡ number_of v.gtt
+pub loaded-owner : (d : Device) (v : Vgpu) (here : ℕ → Bool) (engine : ℕ) → Holds d v here → engine < 4 → here engine ≡ true → (l : Loaded) → d.loaded engine ≡ Some l → l.owner ≡ number_of v.gtt
 loaded-owner d v here engine holds below own l is = on (engine_at v engine).element (holds.engines engine below)
   where
     on : (element : Option Held) → StandsOn d v engine (here engine) element → l.owner ≡ number_of v.gtt

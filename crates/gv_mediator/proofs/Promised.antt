@@ -10,11 +10,11 @@ use Rattle.gv_gpu.specs.Device.{Device}
 use Rattle.gv_gtt.specs.Gtt.{number_of}
 use Rattle.gv_machine.specs.Machine.{device_at, event_receiver, guest_in}
 use Rattle.gv_sched.specs.Rota.{owner_of}
-use Rattle.gv_mdev.specs.Access.{AccessMoves, AccessPokes, FrameMoves, WritePokes}
-use Rattle.gv_mdev.specs.Followed.{FollowsTables}
-use Rattle.gv_mdev.specs.Mdev.{private_of}
-use Rattle.gv_mdev.specs.declared.mdev.Mdev.{Mdev}
-use Rattle.gv_mdev.proofs.Followed.{tables_are_followed}
+use Rattle.gv_vgpu.specs.Access.{AccessMoves, AccessPokes, FrameMoves, WritePokes}
+use Rattle.gv_vgpu.specs.Followed.{FollowsTables}
+use Rattle.gv_vgpu.specs.Vgpu.{private_of}
+use Rattle.gv_vgpu.specs.declared.vgpu.Vgpu.{Vgpu}
+use Rattle.gv_vgpu.proofs.Followed.{tables_are_followed}
 use Rattle.gv_mediator.specs.Rota.{owners_in, owns}
 use Rattle.gv_mediator.specs.Tables.{AllFollow, EventMoves, EventPokes}
 use Rattle.gv_mediator.specs.Tied.{IsAt, Tied, Ties, machine_of}
@@ -37,10 +37,10 @@ follow-ok (Err e) d m stopped tied = tt
 -- ---- one guest's device among all
 
 -- there is one at each place
-one-there : (guests : List Mdev) (k : ℕ) (v w : Mdev) → IsAt guests k v → IsAt guests k w → v ≡ w
+one-there : (guests : List Vgpu) (k : ℕ) (v w : Vgpu) → IsAt guests k v → IsAt guests k w → v ≡ w
 one-there guests k v w at also = sym at.1 ∙ get_or_default guests k v w at.0 ∙ also.1
 
-module _ (d e : Device) (m : Mediator) (k : ℕ) (old new : Mdev) (stopped : Bool) (here : IsAt m.guests.items k old) where
+module _ (d e : Device) (m : Mediator) (k : ℕ) (old new : Vgpu) (stopped : Bool) (here : IsAt m.guests.items k old) where
   abbrev after : Mediator
   after = record { guests = with_item m.guests k new; rota = m.rota; stopped = stopped }
 

@@ -16,18 +16,18 @@ use Rattle.gv_private.specs.Device.{PrivateDevice}
 use Rattle.gv_private.specs.Inputs.{Answered, answer}
 use Rattle.gv_private.specs.Turn.{JournalEntry}
 use Rattle.gv_sched.specs.Rota.{owner_of}
-use Rattle.gv_mdev.specs.Access.{IsAccess, Replies}
-use Rattle.gv_mdev.specs.Changes.{Stops, entry_of, journalled}
-use Rattle.gv_mdev.specs.Mdev.{private_of}
-use Rattle.gv_mdev.specs.Standing.{HasRoomToLoad}
-use Rattle.gv_mdev.specs.declared.mdev.Mdev.{Mdev}
+use Rattle.gv_vgpu.specs.Access.{IsAccess, Replies}
+use Rattle.gv_vgpu.specs.Changes.{Stops, entry_of, journalled}
+use Rattle.gv_vgpu.specs.Vgpu.{private_of}
+use Rattle.gv_vgpu.specs.Standing.{HasRoomToLoad}
+use Rattle.gv_vgpu.specs.declared.vgpu.Vgpu.{Vgpu}
 use Rattle.gv_mediator.specs.Event.{IsEvent, IsGuestEvent, entries_ran, event_done, received_by}
 use Rattle.gv_mediator.specs.Listed.{DeviceMayFault, DeviceMayLackMemory, EventMayFault, EventMayLackMemory, ReceiverMayFault, ReceiverMayLackMemory}
 use Rattle.gv_mediator.specs.Rota.{owners_in, owns, is_guest}
 use Rattle.gv_mediator.specs.Tied.{IsAt, Tied, Ties, devices_in, machine_of}
 use Rattle.gv_mediator.specs.declared.mediator.Mediator.{Mediator}
-use Rattle.gv_mdev.proofs.Others.{device_stands, device_stays}
-use Rattle.gv_mdev.proofs.Small.{devices_are_small, windows_are_small}
+use Rattle.gv_vgpu.proofs.Others.{device_stands, device_stays}
+use Rattle.gv_vgpu.proofs.Small.{devices_are_small, windows_are_small}
 use Rattle.gv_mediator.proofs.OneGuest.{Changed, OwnersChange, changed-kept, device-there, devices-set, idle-stays, owners-stay, ties-after}
 use Rattle.gv_mediator.proofs.Owning.{owner-of-engine, owns-it, same-some}
 use Rattle.gv_mediator.proofs.Room.{IsSmall, all-at, is-small, live-below, room-for}
@@ -49,11 +49,11 @@ takes (device g) k is = let same : g ≡ k = cc in ap device same
 takes (rota engine) k is = cc
 
 module _ (d : Device) (m : Mediator) (tied : Tied d m) (one : Event) (k : ℕ) (is : IsEvent (machine_of d m) one) (mine : guest_in (event_receiver (owner_of m.rota) one) ≡ Some k) where
-  abbrev pub guests : List Mdev
+  abbrev pub guests : List Vgpu
   guests = m.guests.items
 
   devices-many : length (devices_in d (owners_in m.rota) guests) ≡ length guests
-  devices-many = length-map guests (λ (v : Mdev). private_of d v (owns (owners_in m.rota) (number_of v.gtt)))
+  devices-many = length-map guests (λ (v : Vgpu). private_of d v (owns (owners_in m.rota) (number_of v.gtt)))
 
   named : (g : ℕ) → g < length (devices_in d (owners_in m.rota) guests) → Some g ≡ Some k → k < length guests
   named g there same = subst (λ n. n < length guests) (same-some g k same) (subst (λ n. g < n) devices-many there)
@@ -73,7 +73,7 @@ module _ (d : Device) (m : Mediator) (tied : Tied d m) (one : Event) (k : ℕ) (
   pub is-received : event_done (machine_of d m) one ≡ received_by (machine_of d m) one (device k)
   is-received = ap (received_by (machine_of d m) one) (takes (event_receiver (owner_of m.rota) one) k mine)
 
-  module _ (old : Mdev) (here : IsAt guests k old) where
+  module _ (old : Vgpu) (here : IsAt guests k old) where
     pub device-is : device_at (devices_in d (owners_in m.rota) guests) k ≡ private_of d old (owns (owners_in m.rota) k)
     device-is = device-there d (owners_in m.rota) guests k old here ∙ ap (λ n. private_of d old (owns (owners_in m.rota) n)) (tied.ties.number k old here)
 
@@ -98,7 +98,7 @@ module _ (d : Device) (m : Mediator) (tied : Tied d m) (one : Event) (k : ℕ) (
         by (Turn engine) is mine = (is, ap (is_guest k) (owner-of-engine m.rota engine.0 is ∙ mine) ∙ owns-it k)
         by (Switch engine) is mine = absurd (none-some k mine)
 
-    small : (j : ℕ) (v : Mdev) → IsAt guests j v → IsSmall v
+    small : (j : ℕ) (v : Vgpu) → IsAt guests j v → IsSmall v
     small j v at = is-small v (devices_are_small d v (owns (owners_in m.rota) j) (tied.ties.holds j v at))
 
     pub room-here : HasRoomToLoad d old
@@ -122,7 +122,7 @@ module _ (d : Device) (m : Mediator) (tied : Tied d m) (one : Event) (k : ℕ) (
 
     -- ---- what comes of it
 
-    module _ (e : Device) (new : Mdev) (reply : Reply) (replies : Replies (owns (owners_in m.rota) k) d e old new (answer (private_of d old (owns (owners_in m.rota) k)) one) reply) where
+    module _ (e : Device) (new : Vgpu) (reply : Reply) (replies : Replies (owns (owners_in m.rota) k) d e old new (answer (private_of d old (owns (owners_in m.rota) k)) one) reply) where
       answer-same : answer (device_at (devices_in d (owners_in m.rota) guests) k) one ≡ answer (private_of d old (owns (owners_in m.rota) k)) one
       answer-same = ap (λ (p : PrivateDevice). answer p one) device-is
 
@@ -170,7 +170,7 @@ module _ (d : Device) (m : Mediator) (tied : Tied d m) (one : Event) (k : ℕ) (
       }
 
 -- after a call that stopped nothing ran
-pub ran-stopped : (here : ℕ → Bool) (d e : Device) (v : Mdev) (stop : Stop) → Stops here d e v stop → Ran d e []
+pub ran-stopped : (here : ℕ → Bool) (d e : Device) (v : Vgpu) (stop : Stop) → Stops here d e v stop → Ran d e []
 ran-stopped here d e v stop stops = record {
   journal = ap (λ (x : Device). x.journal) stops.outside ∙ sym (append-nil d.journal);
   strays = ap (λ (x : Device). x.strays) stops.outside;

@@ -10,10 +10,10 @@ use Rattle.gv_machine.specs.Laws.{HasOwners}
 use Rattle.gv_machine.specs.Machine.{owner_after, owner_told, switch_course, work_on}
 use Rattle.gv_machine.proofs.Rotas.{owners-switched}
 use Rattle.gv_sched.specs.Rota.{Owners, next_owner, owner_of, switched}
-use Rattle.gv_mdev.specs.Exchange.{Exchanges, owning}
-use Rattle.gv_mdev.specs.Mdev.{private_of}
-use Rattle.gv_mdev.specs.Standing.{Holds}
-use Rattle.gv_mdev.specs.declared.mdev.Mdev.{Mdev}
+use Rattle.gv_vgpu.specs.Exchange.{Exchanges, owning}
+use Rattle.gv_vgpu.specs.Vgpu.{private_of}
+use Rattle.gv_vgpu.specs.Standing.{Holds}
+use Rattle.gv_vgpu.specs.declared.vgpu.Vgpu.{Vgpu}
 use Rattle.gv_mediator.specs.Rota.{is_guest, owners_in, owns}
 use Rattle.gv_mediator.specs.Tied.{IsAt, Tied, Ties, devices_in, machine_of}
 use Rattle.gv_mediator.specs.declared.mediator.Mediator.{Mediator}
@@ -22,20 +22,20 @@ use Rattle.gv_mediator.proofs.Owning.{owner-of-engine, owns-it}
 
 -- the works that were taken down are those on the engine
 pub works-same :
-    (works : List Bool) (seen guests : List Mdev) (engine n : ℕ) (d : Device) (owners : ℕ → Option ℕ) → seen ≡ guests → n ≡ length guests
+    (works : List Bool) (seen guests : List Vgpu) (engine n : ℕ) (d : Device) (owners : ℕ → Option ℕ) → seen ≡ guests → n ≡ length guests
     → ((d : Device) (owners : ℕ → Option ℕ) → take (length seen) works ≡ work_on engine (devices_in d owners seen)) → take n works ≡ work_on engine (devices_in d owners guests)
 works-same works seen guests engine n d owners same many are = ap (λ k. take k works) many ∙ subst (λ gs. take (length gs) works ≡ work_on engine (devices_in d owners gs)) same (are d owners)
 
 module _ (d : Device) (m : Mediator) (tied : Tied d m) (engine : EngineId) (small : engine.0 < 4) (works : List Bool) (works_are : works ≡ work_on engine.0 (devices_in d (owners_in m.rota) m.guests.items))
     (owner : ℕ) (owner_is : owner ≡ owner_of m.rota engine.0) (next : ℕ) (next_is : next ≡ next_owner works (owner_of m.rota engine.0)) (rota : Owners) (rota_is : rota ≡ switched m.rota engine.0 works) where
-  abbrev pub guests : List Mdev
+  abbrev pub guests : List Vgpu
   guests = m.guests.items
 
   rota_given : rota ≡ record m.rota { owners = set m.rota.owners engine.0 next }
   rota_given = rota_is ∙ ap (λ n. record m.rota { owners = set m.rota.owners engine.0 n }) (sym next_is)
 
   has_owners : HasOwners m.rota (machine_of d m)
-  has_owners = record { guests = tied.guests ∙ sym (length-map guests (λ (v : Mdev). private_of d v (owns (owners_in m.rota) (number_of v.gtt)))); owners = refl }
+  has_owners = record { guests = tied.guests ∙ sym (length-map guests (λ (v : Vgpu). private_of d v (owns (owners_in m.rota) (number_of v.gtt)))); owners = refl }
 
   owners-then : owner_of rota ≡ (switch_course (machine_of d m) engine).left.owners
   owners-then = ap owner_of (rota_is ∙ ap (switched m.rota engine.0) works_are) ∙ sym (owners-switched m.rota (machine_of d m) engine small tied.engines has_owners).owners
@@ -69,14 +69,14 @@ module _ (d : Device) (m : Mediator) (tied : Tied d m) (engine : EngineId) (smal
 
   -- ---- it is put away
 
-  module _ (old : Mdev) (here : IsAt guests owner old) (own : ℕ → Bool) (own_is : own ≡ owns (owners_in m.rota) owner) where
+  module _ (old : Vgpu) (here : IsAt guests owner old) (own : ℕ → Bool) (own_is : own ≡ owns (owners_in m.rota) owner) where
     pub holds-owner : Holds d old own
     holds-owner = subst (Holds d old) (sym own_is) (tied.ties.holds owner old here)
 
     pub owns-engine : own engine.0 ≡ true
     owns-engine = ap (λ (h : ℕ → Bool). h engine.0) own_is ∙ ap (is_guest owner) mine ∙ owns-it owner
 
-    module _ (e : Device) (new : Mdev) (away : Exchanges own own (owning own engine.0 false) d e old new) (idle : e.loaded engine.0 ≡ None) where
+    module _ (e : Device) (new : Vgpu) (away : Exchanges own own (owning own engine.0 false) d e old new) (idle : e.loaded engine.0 ≡ None) where
       ties-between : Ties e (put (owners_in m.rota) engine.0 None) (set guests owner new)
       ties-between = ties-away d e (owners_in m.rota) guests owner engine.0 old new here tied.ties mine own own_is away idle
 
@@ -85,7 +85,7 @@ module _ (d : Device) (m : Mediator) (tied : Tied d m) (engine : EngineId) (smal
 
       -- ---- and brought
 
-      module _ (v : Mdev) (at : IsAt (set guests owner new) next v) (there : ℕ → Bool) (there_is : there ≡ owning (owns (owners_in rota) next) engine.0 false) where
+      module _ (v : Vgpu) (at : IsAt (set guests owner new) next v) (there : ℕ → Bool) (there_is : there ≡ owning (owns (owners_in rota) next) engine.0 false) where
         there_owns : there ≡ owns (put (owners_in m.rota) engine.0 None) next
         there_owns = there_is ∙ ap (λ (r : Owners). owning (owns (owners_in r) next) engine.0 false) rota_given ∙ without-engine m.rota engine.0 next small tied.engines
 

@@ -5,8 +5,8 @@ use Rattle.gv_types.specs.declared.event.Event.TheVariants.{Read, Write, Turn, S
 use Rattle.gv_gpu.specs.Device.{JournalEntry}
 use Rattle.gv_machine.specs.Course.{Course}
 use Rattle.gv_machine.specs.Machine.{Machine, Receiver, Happened, device, rota, device_at, event_receiver, happened, owner_told, owner_after, switch_course, ran_of}
-use Rattle.gv_mdev.specs.Access.{IsAccess}
-use Rattle.gv_mdev.specs.Changes.{entry_of}
+use Rattle.gv_vgpu.specs.Access.{IsAccess}
+use Rattle.gv_vgpu.specs.Changes.{entry_of}
 use Rattle.gv_private.specs.Inputs.{answer}
 
 -- ---- what is an event

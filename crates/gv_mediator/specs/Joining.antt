@@ -9,9 +9,9 @@ use Rattle.gv_gpu.specs.Device.{Device}
 use Rattle.gv_gpu.specs.Part.{is_in_windows}
 use Rattle.gv_gtt.specs.Gtt.{number_of}
 use Rattle.gv_machine.specs.Machine.{given_to}
-use Rattle.gv_mdev.specs.Standing.{Holds}
+use Rattle.gv_vgpu.specs.Standing.{Holds}
 use Rattle.gv_sggtt.specs.Mirror.{IsAbsent}
-use Rattle.gv_mdev.specs.declared.mdev.Mdev.{Mdev}
+use Rattle.gv_vgpu.specs.declared.vgpu.Vgpu.{Vgpu}
 use Rattle.gv_mediator.specs.declared.guest.Guest.{Guest}
 use Rattle.gv_mediator.specs.Rota.{owns}
 use Rattle.gv_gpu.specs.Change.{Ran}
@@ -24,9 +24,9 @@ first_owner engine = if nat_lt engine 4 then Some 0 else None
 
 -- The guests so far stand in the device, with the pages of the global table that were given out. No context is loaded,
 -- and no general register was written.
-pub record Joined (d : Device) (guests : List Mdev) (given : Given) : Type 0 where
-  pub number : (g : ℕ) (v : Mdev) → IsAt guests g v → number_of v.gtt ≡ g
-  pub holds : (g : ℕ) (v : Mdev) → IsAt guests g v → Holds d v (owns first_owner g)
+pub record Joined (d : Device) (guests : List Vgpu) (given : Given) : Type 0 where
+  pub number : (g : ℕ) (v : Vgpu) → IsAt guests g v → number_of v.gtt ≡ g
+  pub holds : (g : ℕ) (v : Vgpu) → IsAt guests g v → Holds d v (owns first_owner g)
   pub apart : AreAllApart (all_ranges guests)
   pub live : d.live ≡ all_live guests
   pub frames : d.live ≡ all_frames guests
@@ -43,7 +43,7 @@ MayJoin given [] = Unit {0}
 MayJoin given (guest ∷ more) = (1 ≤ guest.frames) × (fits given guest.want ≡ true) × MayJoin (given_after given guest.want) more
 
 -- So far these joined; these are left of all, and may join; and the machine is that of all when they have joined.
-pub record IsJoining (start d : Device) (devices : List Mdev) (given : Given) (more all : List Guest) : Type 0 where
+pub record IsJoining (start d : Device) (devices : List Vgpu) (given : Given) (more all : List Guest) : Type 0 where
   pub joined : Joined d devices given
   pub may : MayJoin given more
   pub count : length devices + length more ≡ length all

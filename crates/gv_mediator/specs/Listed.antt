@@ -10,8 +10,8 @@ use Rattle.gv_gpu.specs.Device.{Device}
 use Rattle.gv_machine.specs.Machine.{Machine, Receiver, device, rota, device_at, event_receiver, owner_after}
 use Rattle.gv_private.specs.Device.{PrivateDevice}
 use Rattle.gv_private.specs.Turn.{turned}
-use Rattle.gv_mdev.specs.Access.{AccessMayFault, AccessMayLackMemory}
-use Rattle.gv_mdev.specs.Turn.{StepsOnce}
+use Rattle.gv_vgpu.specs.Access.{AccessMayFault, AccessMayLackMemory}
+use Rattle.gv_vgpu.specs.Turn.{StepsOnce}
 
 -- ---- faults
 

@@ -6,20 +6,20 @@ use Rattle.gv_types.specs.declared.reply.Answer.{Answer}
 use Rattle.gv_types.specs.declared.reply.Reason.{Reason}
 use Rattle.gv_gpu.specs.Device.{Device}
 use Rattle.gv_machine.specs.Machine.{Machine, device_at}
-use Rattle.gv_mdev.specs.Access.{FrameMoves, WritePokes}
-use Rattle.gv_mdev.specs.Followed.{FollowsTables}
-use Rattle.gv_mdev.specs.declared.mdev.Mdev.{Mdev}
+use Rattle.gv_vgpu.specs.Access.{FrameMoves, WritePokes}
+use Rattle.gv_vgpu.specs.Followed.{FollowsTables}
+use Rattle.gv_vgpu.specs.declared.vgpu.Vgpu.{Vgpu}
 use Rattle.gv_mediator.specs.Tied.{IsAt, machine_of}
 use Rattle.gv_mediator.specs.declared.mediator.Mediator.{Mediator}
 
 -- The shared device follows the tables of each guest's private device: what an engine reaches through it is what they
 -- grant.
 abbrev pub AllFollow : Device → Mediator → Type 0
-AllFollow d m = (g : ℕ) (v : Mdev) → IsAt m.guests.items g v → FollowsTables d v (device_at (machine_of d m).devices g)
+AllFollow d m = (g : ℕ) (v : Vgpu) → IsAt m.guests.items g v → FollowsTables d v (device_at (machine_of d m).devices g)
 
 -- A frame that moved stands in a host page of another number, and one that was kept in its own.
 abbrev pub EventMoves : Device → Mediator → Mediator → Event → Answer → Type 0
-EventMoves e old new (Move guest frame) answer = (v w : Mdev) → IsAt old.guests.items guest.0 v → IsAt new.guests.items guest.0 w → FrameMoves e v w frame answer
+EventMoves e old new (Move guest frame) answer = (v w : Vgpu) → IsAt old.guests.items guest.0 v → IsAt new.guests.items guest.0 w → FrameMoves e v w frame answer
 EventMoves e old new one answer = ⊤
 
 -- A write of a guest's memory after which its live tables and split keys are as before pokes one word, and one more for

@@ -9,10 +9,10 @@ use Rattle.gv_gpu.specs.Device.{Device}
 use Rattle.gv_gpu.specs.Part.{is_in_windows}
 use Rattle.gv_gtt.specs.Gtt.{frames_of, number_of, ranges_of}
 use Rattle.gv_machine.specs.Machine.{Machine, no_ranges}
-use Rattle.gv_mdev.specs.Changes.{own_live}
-use Rattle.gv_mdev.specs.Mdev.{private_of}
-use Rattle.gv_mdev.specs.Standing.{Holds}
-use Rattle.gv_mdev.specs.declared.mdev.Mdev.{Mdev}
+use Rattle.gv_vgpu.specs.Changes.{own_live}
+use Rattle.gv_vgpu.specs.Vgpu.{private_of}
+use Rattle.gv_vgpu.specs.Standing.{Holds}
+use Rattle.gv_vgpu.specs.declared.vgpu.Vgpu.{Vgpu}
 use Rattle.gv_private.specs.Device.{PrivateDevice}
 use Rattle.gv_sched.specs.Rota.{owner_of}
 use Rattle.gv_sggtt.specs.Mirror.{IsAbsent}
@@ -21,13 +21,13 @@ use Rattle.gv_mediator.specs.declared.mediator.Mediator.{Mediator}
 
 -- ---- the guests
 
-abbrev pub all_ranges : List Mdev → List Ranges
-all_ranges guests = map (λ (v : Mdev). ranges_of v.gtt) guests
+abbrev pub all_ranges : List Vgpu → List Ranges
+all_ranges guests = map (λ (v : Vgpu). ranges_of v.gtt) guests
 
-abbrev pub all_frames : List Mdev → ℕ
-all_frames guests = sum_by (λ (v : Mdev). length (frames_of v.gtt).pages) guests
+abbrev pub all_frames : List Vgpu → ℕ
+all_frames guests = sum_by (λ (v : Vgpu). length (frames_of v.gtt).pages) guests
 
-abbrev pub all_live : List Mdev → ℕ
+abbrev pub all_live : List Vgpu → ℕ
 all_live guests = sum_by own_live guests
 
 -- no page of the global table is in the ranges of two guests
@@ -35,15 +35,15 @@ abbrev pub AreAllApart : List Ranges → Type 0
 AreAllApart all = (g k : ℕ) → g ≢ k → g < length all → k < length all → AreApart (slice_index_or all g no_ranges) (slice_index_or all k no_ranges)
 
 -- it is guest g's device
-abbrev pub IsAt : List Mdev → ℕ → Mdev → Type 0
+abbrev pub IsAt : List Vgpu → ℕ → Vgpu → Type 0
 IsAt guests g v = (g < length guests) × (slice_index_or guests g v ≡ v)
 
 -- Each guest's device stands in the shared one, with ranges of its own, and owns the engines that are its own. On an
 -- engine that nobody owns no context is loaded. All live pages are the guests', and every other physical entry of the
 -- global table is absent.
-pub record Ties (d : Device) (owners : ℕ → Option ℕ) (guests : List Mdev) : Type 0 where
-  pub number : (g : ℕ) (v : Mdev) → IsAt guests g v → number_of v.gtt ≡ g
-  pub holds : (g : ℕ) (v : Mdev) → IsAt guests g v → Holds d v (owns owners g)
+pub record Ties (d : Device) (owners : ℕ → Option ℕ) (guests : List Vgpu) : Type 0 where
+  pub number : (g : ℕ) (v : Vgpu) → IsAt guests g v → number_of v.gtt ≡ g
+  pub holds : (g : ℕ) (v : Vgpu) → IsAt guests g v → Holds d v (owns owners g)
   pub apart : AreAllApart (all_ranges guests)
   pub there : (engine g : ℕ) → owners engine ≡ Some g → g < length guests
   pub idle : (engine : ℕ) → owners engine ≡ None → d.loaded engine ≡ None
@@ -55,8 +55,8 @@ pub record Ties (d : Device) (owners : ℕ → Option ℕ) (guests : List Mdev) 
 
 -- ---- the machine
 
-abbrev pub devices_in : Device → (ℕ → Option ℕ) → List Mdev → List PrivateDevice
-devices_in d owners guests = map (λ (v : Mdev). private_of d v (owns owners (number_of v.gtt))) guests
+abbrev pub devices_in : Device → (ℕ → Option ℕ) → List Vgpu → List PrivateDevice
+devices_in d owners guests = map (λ (v : Vgpu). private_of d v (owns owners (number_of v.gtt))) guests
 
 -- The machine that a mediator stands for: the guests' private devices, and the rota's owners.
 abbrev pub machine_of : Device → Mediator → Machine

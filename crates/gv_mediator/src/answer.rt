@@ -5,27 +5,27 @@ ghost use Rattle.gv_gtt.specs.Gtt.{frames_of, number_of};
 ghost use Rattle.gv_machine.specs.Machine.{Happened, Machine, event_receiver, guest_in};
 ghost use Rattle.gv_sched.specs.Rota.{owner_of};
 ghost use Rattle.gv_private.specs.Inputs.{answer};
-ghost use Rattle.gv_mdev.specs.Access.{AccessMoves, AccessPokes, Replies};
-ghost use Rattle.gv_mdev.specs.Changes.{Stops};
+ghost use Rattle.gv_vgpu.specs.Access.{AccessMoves, AccessPokes, Replies};
+ghost use Rattle.gv_vgpu.specs.Changes.{Stops};
 ghost use Rattle.gv_mediator.specs.Event.{GoesToDevice, IsEvent, IsGuestEvent, entries_ran, event_done};
 ghost use Rattle.gv_mediator.specs.Listed.{AnswersOnce, DeviceMayFault, DeviceMayLackMemory, EventMayFault, EventMayLackMemory, KeepsOwner};
-ghost use Rattle.gv_mdev.specs.Mdev.{private_of};
-ghost use Rattle.gv_mdev.specs.Owners.{is_here};
-ghost use Rattle.gv_mdev.specs.Standing.{HasRoomToLoad, Holds};
+ghost use Rattle.gv_vgpu.specs.Vgpu.{private_of};
+ghost use Rattle.gv_vgpu.specs.Owners.{is_here};
+ghost use Rattle.gv_vgpu.specs.Standing.{HasRoomToLoad, Holds};
 ghost use Rattle.gv_mediator.specs.Tables.{AllFollow, EventMoves, EventPokes};
 ghost use Rattle.gv_mediator.specs.Tied.{Tied, machine_of};
 
 use crate::mediator::Mediator;
 use gv_gpu::{Gpu, GpuFailed};
-use gv_mdev::Mdev;
 use gv_types::{Answer, Event, GuestId, Reply, Stop};
+use gv_vgpu::Vgpu;
 use std::alloc::Global;
 
 // One event of a guest, over its device.
 fn answer<G: Gpu>(
     alloc: Global,
     gpu: &mut G,
-    device: &mut Mdev,
+    device: &mut Vgpu,
     guest: GuestId,
     here: [bool; 4],
     event: &Event,

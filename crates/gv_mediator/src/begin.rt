@@ -12,16 +12,16 @@ use crate::guest::Guest;
 use crate::mediator::Mediator;
 use gv_balloon::Given;
 use gv_gpu::Gpu;
-use gv_mdev::Mdev;
 use gv_sched::Rota;
 use gv_types::{GuestId, OutOfMemory};
+use gv_vgpu::Vgpu;
 use std::alloc::Global;
 
 // A guest joins: its device is made, with the next ranges of the global table.
 fn join<G: Gpu>(
     alloc: Global,
     gpu: &mut G,
-    devices: &mut Vec<Mdev>,
+    devices: &mut Vec<Vgpu>,
     given: &mut Given,
     guest: &Guest,
 ) -> Result<(), OutOfMemory>
@@ -41,14 +41,14 @@ fn join<G: Gpu>(
     devices.reserve(1)?;
     let number = GuestId(devices.len() as u8);
     let ranges = given.next(&guest.want);
-    let device = Mdev::new(alloc, gpu, number, guest.frames, ranges)?;
+    let device = Vgpu::new(alloc, gpu, number, guest.frames, ranges)?;
     devices.push(device).unwrap();
     *given = given.after(&guest.want);
     Ok(())
 }
 
 // All guests join, one after another.
-fn join_all<G: Gpu>(alloc: Global, gpu: &mut G, guests: &[Guest]) -> Result<Vec<Mdev>, OutOfMemory>
+fn join_all<G: Gpu>(alloc: Global, gpu: &mut G, guests: &[Guest]) -> Result<Vec<Vgpu>, OutOfMemory>
     requires begin { MayBegin guests.now }
     requires empty { IsEmpty (G.state gpu.old) }
     ensures joined { IfOk result (λ devices. (given : GivenOut) × Joined (G.state gpu.new) devices.items given) }

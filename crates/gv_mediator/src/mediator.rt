@@ -3,21 +3,21 @@ ghost use Rattle.gv_types.specs.Memory.{memory_read};
 ghost use Rattle.gv_machine.specs.Machine.{device_at};
 
 use gv_gpu::Gpu;
-use gv_mdev::Mdev;
 use gv_sched::Rota;
 use gv_types::{EngineId, GuestId, Width};
+use gv_vgpu::Vgpu;
 
 /// All guests' devices, and who owns each engine. Clauses see the machine that it stands for (`machine_of`), and that it
 /// stands in the shared device (`Tied`).
 #[derive(Drop)]
 pub struct Mediator {
-    pub(crate) guests: Vec<Mdev>,
+    pub(crate) guests: Vec<Vgpu>,
     pub(crate) rota: Rota,
     pub(crate) stopped: bool,
 }
 
 impl Mediator {
-    ghost use Rattle.gv_mdev.specs.Owners.{is_here};
+    ghost use Rattle.gv_vgpu.specs.Owners.{is_here};
     ghost use Rattle.gv_mediator.specs.Rota.{owners_in, owns};
     ghost use Rattle.gv_mediator.specs.Tied.{Tied, machine_of};
 

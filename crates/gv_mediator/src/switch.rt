@@ -3,17 +3,17 @@ ghost use Rattle.gv_gpu.specs.Change.{Ran};
 ghost use Rattle.gv_gpu.specs.Device.{Device, counted};
 ghost use Rattle.gv_machine.specs.Machine.{owner_after, owner_told, switch_course, work_on};
 ghost use Rattle.gv_sched.specs.Rota.{owner_of};
-ghost use Rattle.gv_mdev.specs.Exchange.{owning};
-ghost use Rattle.gv_mdev.specs.Owners.{is_here};
+ghost use Rattle.gv_vgpu.specs.Exchange.{owning};
+ghost use Rattle.gv_vgpu.specs.Owners.{is_here};
 ghost use Rattle.gv_mediator.specs.Tied.{Tied, devices_in, machine_of};
 
 use crate::mediator::Mediator;
 use gv_gpu::{Gpu, GpuFailed};
-use gv_mdev::Mdev;
 use gv_types::{Answer, EngineId, GuestId, Reply};
+use gv_vgpu::Vgpu;
 
 // Which guests have work on an engine: the first ones of eight.
-fn works_on(guests: &[Mdev], engine: EngineId) -> [bool; 8]
+fn works_on(guests: &[Vgpu], engine: EngineId) -> [bool; 8]
     requires engine { engine.0 < 4 }
     requires few { length guests.now ≤ 8 }
     ensures { (d : Device) (owners : ℕ → Option ℕ) → take (length guests.now) result ≡ work_on engine.0 (devices_in d owners guests.now) }

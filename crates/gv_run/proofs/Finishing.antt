@@ -15,7 +15,7 @@ use Rattle.gv_private.specs.Turn.{JournalEntry as PrivateEntry}
 use Rattle.gv_machine.specs.Machine.{Machine, new_machine}
 use Rattle.gv_machine.specs.Report.{said_all, ending_said, course_of, script_said, report_of, commands_in}
 use Rattle.gv_machine.proofs.Scripts.{report_of-script, ending_of-script, machine_of-script, commands_in-script}
-use Rattle.gv_mdev.specs.Changes.{entry_of}
+use Rattle.gv_vgpu.specs.Changes.{entry_of}
 use Rattle.gv_mediator.specs.Laws.{HasMemories}
 use Rattle.gv_run.specs.Streamed.{WritesFront, Begun, RunsLines, Finishes}
 use Rattle.gv_run.specs.Tied.{machine_in}

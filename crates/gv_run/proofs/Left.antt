@@ -12,7 +12,7 @@ use Rattle.gv_machine.specs.Machine.{Machine, Done, line_course, ran_all}
 use Rattle.gv_machine.specs.Report.{said_all, course_of}
 use Rattle.gv_machine.proofs.Left.{Left, LeftOf, Played, left-all, left-none, left-whole, goes-on, began, line-done, line-began}
 use Rattle.gv_machine.proofs.Text.{said_none}
-use Rattle.gv_mdev.specs.Changes.{entry_of}
+use Rattle.gv_vgpu.specs.Changes.{entry_of}
 use Rattle.gv_run.specs.Tied.{Plays, entries_in}
 
 -- ---- what ran

@@ -22,7 +22,7 @@ use Rattle.gv_machine.proofs.OwnCourse.{set_own}
 use Rattle.gv_machine.proofs.Text.{said_more, said_none}
 use Rattle.gv_machine.proofs.Turns.{turns_from, turns-more, length-turns, alarms-more, counts-more, counts-small}
 use Rattle.gv_mediator.specs.Event.{event_done, entries_ran}
-use Rattle.gv_mdev.specs.Changes.{entry_of}
+use Rattle.gv_vgpu.specs.Changes.{entry_of}
 use Rattle.gv_text.specs.Report.{text_of}
 use Rattle.gv_text.specs.declared.report_line.ReportLine.{ReportLine}
 use Rattle.gv_run.specs.Lines.{turns_line}

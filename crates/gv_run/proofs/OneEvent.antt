@@ -19,9 +19,9 @@ use Rattle.gv_machine.proofs.Joined.{length-played}
 use Rattle.gv_machine.proofs.Named.{IsEventBelow, AreBelow}
 use Rattle.gv_machine.proofs.OwnCourse.{IsWhole as Whole, whole-played}
 use Rattle.gv_machine.proofs.Rotas.{OwnersAreThere, next-there}
-use Rattle.gv_mdev.specs.Mdev.{private_of}
-use Rattle.gv_mdev.specs.declared.mdev.Mdev.{Mdev}
-use Rattle.gv_mdev.specs.Changes.{entry_of}
+use Rattle.gv_vgpu.specs.Vgpu.{private_of}
+use Rattle.gv_vgpu.specs.declared.vgpu.Vgpu.{Vgpu}
+use Rattle.gv_vgpu.specs.Changes.{entry_of}
 use Rattle.gv_mediator.specs.Rota.{owners_in, owns}
 use Rattle.gv_mediator.specs.Event.{IsEvent, received_by, event_done, entries_ran}
 use Rattle.gv_mediator.specs.Tied.{Tied, machine_of}
@@ -57,7 +57,7 @@ module _ (d e : Device) (before after : Mediator) (inputs : List Input) (stands 
 -- some guest is there, since the first engine has an owner
 pub some-guest : (d : Device) (m : Mediator) → Tied d m → 0 < length (machine_of d m).devices
 some-guest d m tied =
-    let many = length-map m.guests.items (λ (v : Mdev). private_of d v (owns (owners_in m.rota) (number_of v.gtt))) in
+    let many = length-map m.guests.items (λ (v : Vgpu). private_of d v (owns (owners_in m.rota) (number_of v.gtt))) in
     let owner : owner_of m.rota 0 < length m.guests.items = tied.ties.there 0 (owner_of m.rota 0) refl in
     subst (λ n. 0 < n) (sym many) (omega arith)
 

@@ -24,7 +24,7 @@ use Rattle.gv_machine.specs.Report.{said_all, course_of, ending_said, report_of,
 use Rattle.gv_machine.proofs.Left.{left_of, left-refused, left-ended, left-line}
 use Rattle.gv_machine.proofs.Scripts.{report_of-script, commands_in-script}
 use Rattle.gv_machine.proofs.Text.{said_none}
-use Rattle.gv_mdev.specs.Changes.{entry_of}
+use Rattle.gv_vgpu.specs.Changes.{entry_of}
 use Rattle.gv_run.specs.Headline.{TakesAtMost}
 use Rattle.gv_run.specs.Streamed.{WritesFront, StopsAtFault, Begun, RunsLines, ending_at, is_last, report_so_far, ending_so_far}
 use Rattle.gv_run.specs.Tied.{entries_in, machine_in}

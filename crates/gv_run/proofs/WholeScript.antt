@@ -10,7 +10,7 @@ use Rattle.gv_private.specs.Turn.{JournalEntry as PrivateEntry}
 use Rattle.gv_machine.specs.Machine.{Machine, new_machine, ran_all}
 use Rattle.gv_machine.specs.Report.{said_all, course_of, ending_said, script_said}
 use Rattle.gv_machine.proofs.Text.{said_none}
-use Rattle.gv_mdev.specs.Changes.{entry_of}
+use Rattle.gv_vgpu.specs.Changes.{entry_of}
 use Rattle.gv_run.specs.Streamed.{RunsLines}
 use Rattle.gv_run.specs.Tied.{machine_in}
 use Rattle.gv_run.specs.declared.stage.Stage.{Stage}

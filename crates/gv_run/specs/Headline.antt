@@ -6,7 +6,7 @@ use Rattle.gv_text.specs.declared.ending.Ending.TheVariants as endings
 use Rattle.gv_gpu.specs.Device.{Device, JournalEntry}
 use Rattle.gv_machine.specs.Laws.{IsPrivate}
 use Rattle.gv_machine.specs.Report.{report_of, commands_in}
-use Rattle.gv_mdev.specs.Changes.{entry_of}
+use Rattle.gv_vgpu.specs.Changes.{entry_of}
 use Rattle.gv_run.specs.declared.call.Status.{Status}
 use Rattle.gv_run.specs.declared.call.Status.TheVariants.{Done, OutOfMemory, ReadFault, WriteFault, BadScript, TooLong, DeviceFault}
 use Rattle.gv_run.specs.declared.stopped.Stopped.{Stopped}

@@ -7,7 +7,7 @@ use Rattle.gv_gpu.specs.Device.{Device, JournalEntry}
 use Rattle.gv_lines.specs.Summary.{no_totals, totals_after, summary_lines}
 use Rattle.gv_machine.specs.Machine.{Machine, new_machine, ran_all}
 use Rattle.gv_machine.specs.Report.{course_of, script_said}
-use Rattle.gv_mdev.specs.Changes.{entry_of}
+use Rattle.gv_vgpu.specs.Changes.{entry_of}
 use Rattle.gv_mediator.specs.Laws.{HasMemories}
 use Rattle.gv_text.specs.Report.{text_of}
 use Rattle.gv_run.specs.Streamed.{WritesFront}

@@ -12,7 +12,7 @@ use Rattle.gv_lines.specs.declared.next.Next.{Next}
 use Rattle.gv_lines.specs.declared.next.Next.TheVariants.{Line, LastLine, LongLine, End, PastLimit}
 use Rattle.gv_machine.specs.Machine.{new_machine}
 use Rattle.gv_machine.specs.Report.{said_all, course_of, report_of, ending_of, machine_of, commands_in}
-use Rattle.gv_mdev.specs.Changes.{entry_of}
+use Rattle.gv_vgpu.specs.Changes.{entry_of}
 use Rattle.gv_mediator.specs.Laws.{HasMemories}
 use Rattle.gv_run.specs.Tied.{entries_in, machine_in}
 use Rattle.gv_run.specs.declared.stage.Stage.{Stage}

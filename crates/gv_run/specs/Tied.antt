@@ -6,7 +6,7 @@ use Rattle.gv_gpu.specs.Device.{Device, JournalEntry, IsEmpty}
 use Rattle.gv_machine.specs.Course.{Course}
 use Rattle.gv_machine.specs.Machine.{Machine, Done, device_at, ran_all}
 use Rattle.gv_machine.specs.Report.{said_all}
-use Rattle.gv_mdev.specs.Changes.{entry_of}
+use Rattle.gv_vgpu.specs.Changes.{entry_of}
 use Rattle.gv_mediator.specs.First.{first_machine}
 use Rattle.gv_mediator.specs.Tied.{Tied, machine_of}
 use Rattle.gv_mediator.specs.declared.guest.Guest.{Guest}

@@ -3,7 +3,7 @@ ghost use Rattle.std.specs.Io.KnownBytes.{Appends};
 ghost use Rattle.gv_outside.specs.Causes.{Rose};
 ghost use Rattle.gv_gpu.specs.Device.{IsEmpty, counted};
 ghost use Rattle.gv_machine.specs.Report.{report_of, ending_of, machine_of, commands_in};
-ghost use Rattle.gv_mdev.specs.Changes.{entry_of};
+ghost use Rattle.gv_vgpu.specs.Changes.{entry_of};
 ghost use Rattle.gv_mediator.specs.Laws.{HasMemories};
 ghost use Rattle.gv_text.specs.Script.{script_limit};
 ghost use Rattle.gv_run.specs.Headline.{NamesRun, NamesGen, NamesNothing, status_of, status_of_stop, tells_ending, TakesAtMost, WritesPart, WritesPrivate, RanPartOf, RanFrontOf};

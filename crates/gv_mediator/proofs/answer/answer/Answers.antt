@@ -1,8 +1,8 @@
 use Rattle.std.proofs.Common.{sym, subst}
 use Rattle.std.proofs.lemmas.Result.{err_from_is_err_and}
 use Rattle.gv_types.specs.declared.reply.Stop.TheVariants.{OutOfMemory}
-use Rattle.gv_mdev.specs.Mdev.{private_of}
-use Rattle.gv_mdev.specs.Owners.{is_here}
+use Rattle.gv_vgpu.specs.Vgpu.{private_of}
+use Rattle.gv_vgpu.specs.Owners.{is_here}
 use Rattle.gv_mediator.specs.Listed.{DeviceMayLackMemory}
 use Rattle.gv_mediator.proofs.Lacking.{err-again, turn-lacks}
 use Rattle.gv_mediator.proofs.answer.answer.Goals as goal

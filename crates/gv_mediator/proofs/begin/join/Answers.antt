@@ -5,11 +5,11 @@ use Rattle.gv_gpu.specs.Part.{frames_part, outside}
 use Rattle.gv_gtt.specs.Gtt.{number_of, ranges_of}
 use Rattle.gv_private.specs.Device.{PrivateDevice, new_device}
 use Rattle.gv_mediator.specs.Joining.{Joined, first_owner}
-use Rattle.gv_mdev.specs.Mdev.{private_of}
+use Rattle.gv_vgpu.specs.Vgpu.{private_of}
 use Rattle.gv_mediator.specs.Rota.{owns}
-use Rattle.gv_mdev.specs.Standing.{Holds}
+use Rattle.gv_vgpu.specs.Standing.{Holds}
 use Rattle.gv_mediator.specs.Tied.{devices_in}
-use Rattle.gv_mdev.specs.declared.mdev.Mdev.{Mdev}
+use Rattle.gv_vgpu.specs.declared.vgpu.Vgpu.{Vgpu}
 use Rattle.gv_mediator.proofs.Joining.{devices-then, engines-idle, joined-then}
 use Rattle.gv_mediator.proofs.begin.join.Goals as goal
 
@@ -30,12 +30,12 @@ returns-clause-joined g c =
     let number : number_of v.gtt ≡ n = sym holds.number ∙ ap (λ (p : PrivateDevice). p.number) is in
     let ranges : ranges_of v.gtt ≡ next_ranges given want = sym holds.ranges ∙ ap (λ (p : PrivateDevice). p.ranges) is ∙ c.next-ranges.ensures.ranges in
     let pushed = rw c.unwrap.ensures at c.push.ensures.items in
-    let items : c.push.new.self.items ≡ guests ++ v ∷ [] = pushed ∙ ap (λ (gs : List Mdev). gs ++ v ∷ []) c.in_ok-reserve.ensures.items in
+    let items : c.push.new.self.items ≡ guests ++ v ∷ [] = pushed ∙ ap (λ (gs : List Vgpu). gs ++ v ∷ []) c.in_ok-reserve.ensures.items in
     let live = made.live ∙ ap (λ m. d.live + m) (sym made.frames) in
     let few = c.requires.memory in
     let many = made.frames in
     subst (λ (given : Given). Joined e c.push.new.self.items given) (sym c.after.ensures)
-    (subst (λ (gs : List Mdev). Joined e gs (given_after given want)) (sym items)
+    (subst (λ (gs : List Vgpu). Joined e gs (given_after given want)) (sym items)
     (joined-then d e guests v given want c.requires.joined c.requires.fit (number ∙ many_are) ranges (subst (λ k. Holds e v (owns first_owner k)) (sym number) holds) live (made.own ∙ sym many) (subst (λ m. d.live + m ≤ 16384) (sym many) few) c.requires.few
     (subst (λ k. outside (frames_part k) e ≡ outside (frames_part k) d) (sym number) made.outside)
     (subst (AreAmong (given_after given want)) c.next-ranges.ensures.ranges c.next-ranges.ensures.among)))
@@ -57,7 +57,7 @@ returns-clause-devices g c =
     let number : number_of v.gtt ≡ n = sym holds.number ∙ ap (λ (p : PrivateDevice). p.number) is in
     let ranges : ranges_of v.gtt ≡ next_ranges given want = sym holds.ranges ∙ ap (λ (p : PrivateDevice). p.ranges) is ∙ c.next-ranges.ensures.ranges in
     let pushed = rw c.unwrap.ensures at c.push.ensures.items in
-    let items : c.push.new.self.items ≡ guests ++ v ∷ [] = pushed ∙ ap (λ (gs : List Mdev). gs ++ v ∷ []) c.in_ok-reserve.ensures.items in
+    let items : c.push.new.self.items ≡ guests ++ v ∷ [] = pushed ∙ ap (λ (gs : List Vgpu). gs ++ v ∷ []) c.in_ok-reserve.ensures.items in
     let live = made.live ∙ ap (λ m. d.live + m) (sym made.frames) in
     let few = c.requires.memory in
     let many = made.frames in

@@ -1,10 +1,10 @@
 use Rattle.std.proofs.Common.{ℕ, Bool, length, sym, subst}
 use Rattle.gv_gtt.specs.Gtt.{number_of}
-use Rattle.gv_mdev.specs.Standing.{Holds}
-use Rattle.gv_mdev.specs.Access.{AccessPokes, Replies}
+use Rattle.gv_vgpu.specs.Standing.{Holds}
+use Rattle.gv_vgpu.specs.Access.{AccessPokes, Replies}
 use Rattle.gv_mediator.specs.Event.{IsGuestEvent}
 use Rattle.gv_mediator.specs.Listed.{DeviceMayFault, DeviceMayLackMemory}
-use Rattle.gv_mdev.specs.Mdev.{private_of}
+use Rattle.gv_vgpu.specs.Vgpu.{private_of}
 use Rattle.gv_private.specs.Inputs.{answer}
 use Rattle.gv_mediator.specs.Tied.{IsAt}
 use Rattle.gv_mediator.proofs.Receiving.{guest-event, live-here, machine-then, may-fault, may-lack, ok-all, ok-then, ran-then, receiver-there, reply-is, room-here, tied-then}

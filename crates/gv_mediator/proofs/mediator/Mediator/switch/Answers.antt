@@ -1,6 +1,6 @@
 use Rattle.std.proofs.Common.{ℕ, Bool, false, set, take, ap, sym, ◌∙◌}
-use Rattle.gv_mdev.specs.Exchange.{owning}
-use Rattle.gv_mdev.specs.Owners.{is_here}
+use Rattle.gv_vgpu.specs.Exchange.{owning}
+use Rattle.gv_vgpu.specs.Owners.{is_here}
 use Rattle.gv_mediator.specs.Rota.{owners_in}
 use Rattle.gv_mediator.specs.Tied.{IsAt}
 use Rattle.gv_mediator.proofs.Switching.{away-next, holds-next, holds-owner, machine-stays, machine-switched, next-between, owner-there, owns-engine, tied-stays, tied-switched, works-same}

@@ -1,5 +1,0 @@
-use Rattle.gv_mdev.proofs.Working.{step_is_its_turn}
-use Rattle.gv_mdev.proofs.laws.a_step_is_its_turn.Goals as goal
-
-pub returns : goal.returns
-returns c = step_is_its_turn

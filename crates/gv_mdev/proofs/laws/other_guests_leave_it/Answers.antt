@@ -1,8 +1,0 @@
-use Rattle.gv_mdev.proofs.Others.{device_stands, device_stays}
-use Rattle.gv_mdev.proofs.laws.other_guests_leave_it.Goals as goal
-
-pub returns-clause-stands : goal.returns-clause-stands
-returns-clause-stands c = device_stands
-
-pub returns-clause-stays : goal.returns-clause-stays
-returns-clause-stays c = device_stays

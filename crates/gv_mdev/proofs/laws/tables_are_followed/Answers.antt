@@ -1,5 +1,0 @@
-use Rattle.gv_mdev.proofs.Followed.{tables_are_followed}
-use Rattle.gv_mdev.proofs.laws.tables_are_followed.Goals as goal
-
-pub returns : goal.returns
-returns c = tables_are_followed

@@ -1,6 +1,0 @@
-use Rattle.gv_mdev.specs.Owners.{is_here}
-use Rattle.gv_mdev.specs.Reset.{AreReset, are_named_below}
-use Rattle.gv_mdev.proofs.mdev.Mdev.reset_named.Given as goal
-
-abbrev pub invariant-loop-engine : goal.invariant-loop-engine
-invariant-loop-engine g l = AreReset (are_named_below l.named l.engine) (is_here l.fn.here) (g.G.Gpu.state l.fn.gpu) (g.G.Gpu.state l.gpu) l.fn.self l.self

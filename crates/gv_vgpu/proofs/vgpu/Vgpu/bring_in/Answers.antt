@@ -1,0 +1,51 @@
+use Rattle.std.proofs.Common.{◌∙◌}
+use Rattle.std.proofs.lemmas.Result.{MatchResult-weaker, on_ok_weaker}
+use Rattle.gv_vgpu.specs.Vgpu.{private_of}
+use Rattle.gv_vgpu.specs.Owners.{is_here}
+use Rattle.gv_vgpu.proofs.Refused.{load-fetches, refused-image, refused-load, refused-root}
+use Rattle.gv_vgpu.proofs.Registers.{keeps-then}
+use Rattle.gv_vgpu.proofs.Steps.{announced-has}
+use Rattle.gv_vgpu.proofs.vgpu.Vgpu.bring_in.Goals as goal
+
+pub returns-in-Err-clause-refuses : goal.returns-in-Err-clause-refuses
+returns-in-Err-clause-refuses g c =
+    let d = g.G.Gpu.state c.args.gpu.now in
+    let here = is_here c.args.here in
+    refused-image d c.args.self.now here c.requires.holds c.args.engine.0 c.args.descriptor c.of.result c.in-Err.reason c.of.ensures (c.in-Err.ensures.image (private_of d c.args.self.now here))
+
+pub fetch_into-requires-clause-root : goal.fetch_into-requires-clause-root
+fetch_into-requires-clause-root g c =
+    let here = is_here c.args.here in
+    announced-has (private_of (g.G.Gpu.state c.args.gpu.now) c.args.self.now here) (private_of (g.G.Gpu.state c.announce.new.gpu) c.announce.new.self here) c.in-Ok.image.root c.in-Ok-announce.ensures.device
+
+pub returns-in-Ok-announce-clause-device : goal.returns-in-Ok-announce-clause-device
+returns-in-Ok-announce-clause-device g c =
+    let d = g.G.Gpu.state c.args.gpu.now in
+    let here = is_here c.args.here in
+    let p = private_of d c.args.self.now here in
+    on_ok_weaker c.fetch_into.result
+    (λ is. load-fetches d c.args.self.now here c.requires.holds c.args.engine.0 c.args.descriptor c.of.result c.in-Ok.image c.of.ensures (c.in-Ok.ensures.image p) (g.G.Gpu.state c.announce.new.gpu) c.announce.new.self c.in-Ok-announce.ensures.device ∙ is)
+    c.fetch_into.ensures.device
+
+pub returns-in-Ok-announce-clause-keeps : goal.returns-in-Ok-announce-clause-keeps
+returns-in-Ok-announce-clause-keeps g c =
+    on_ok_weaker c.fetch_into.result
+    (λ keeps. keeps-then (is_here c.args.here) (g.G.Gpu.state c.args.gpu.now) (g.G.Gpu.state c.announce.new.gpu) (g.G.Gpu.state c.fetch_into.new.gpu) c.args.self.now c.announce.new.self c.fetch_into.new.self c.in-Ok-announce.ensures.keeps keeps)
+    c.fetch_into.ensures.keeps
+
+pub returns-in-Ok-announce-clause-refuses : goal.returns-in-Ok-announce-clause-refuses
+returns-in-Ok-announce-clause-refuses g c =
+    let d = g.G.Gpu.state c.args.gpu.now in
+    let here = is_here c.args.here in
+    let p = private_of d c.args.self.now here in
+    MatchResult-weaker c.fetch_into.result c.fetch_into.ensures.refuses (λ x is. is)
+    (λ refusal refused. refused-load d c.args.self.now here c.requires.holds c.args.engine.0 c.args.descriptor c.of.result c.in-Ok.image c.of.ensures (c.in-Ok.ensures.image p) (g.G.Gpu.state c.announce.new.gpu) c.announce.new.self
+    c.in-Ok-announce.ensures.device (g.G.Gpu.state c.fetch_into.new.gpu) c.fetch_into.new.self refusal c.in-Ok-announce.ensures.keeps refused)
+
+pub returns-in-Err-announce-clause-refuses : goal.returns-in-Err-announce-clause-refuses
+returns-in-Err-announce-clause-refuses g c =
+    let d = g.G.Gpu.state c.args.gpu.now in
+    let here = is_here c.args.here in
+    let p = private_of d c.args.self.now here in
+    refused-root d c.args.self.now here c.requires.holds c.args.engine.0 c.args.descriptor c.of.result c.in-Ok.image c.of.ensures (c.in-Ok.ensures.image p) (g.G.Gpu.state c.announce.new.gpu) c.announce.new.self
+    c.in-Err-announce.refusal c.in-Err-announce.ensures.refuses

@@ -1,0 +1,94 @@
+-- What a call leaves of a guest's device, and of the shared one.
+use Rattle.std.specs.Prelude.{◌≡◌, ℕ, ◌+◌, ◌≤◌, ◌++◌, Bool, List, Option, None, Some, length, map}
+use Rattle.gv_types.specs.Memory.{Memory}
+use Rattle.gv_types.specs.declared.ids.GuestId.{GuestId}
+use Rattle.gv_types.specs.declared.reply.Answer.{Answer}
+use Rattle.gv_types.specs.declared.reply.Outcome.{Outcome}
+use Rattle.gv_types.specs.declared.reply.Reply.{Reply}
+use Rattle.gv_types.specs.declared.reply.Stop.{Stop}
+use Rattle.gv_types.specs.declared.reply.Stop.TheVariants.{DeviceFault}
+use Rattle.gv_element.specs.Works.{Held}
+use Rattle.gv_gpu.specs.Device.{Device, JournalEntry, counted, with_faults}
+use Rattle.gv_gpu.specs.Part.{outside, guest_part}
+use Rattle.gv_gtt.specs.Gtt.{frames_of, memory_of, number_of, own_pages, ranges_of}
+use Rattle.gv_private.specs.Device.{Written}
+use Rattle.gv_private.specs.Turn.{JournalEntry as PrivateEntry, Turned}
+use Rattle.gv_vgpu.specs.Vgpu.{engine_at, private_of}
+use Rattle.gv_vgpu.specs.Standing.{Holds, Occupies}
+use Rattle.gv_vgpu.specs.declared.vgpu.Vgpu.{Vgpu}
+use Rattle.gv_vgpu.specs.declared.notice.Notice.{Notice}
+
+-- ---- live pages
+
+abbrev pub window_pages : Option Held → ℕ
+window_pages None = 0
+window_pages (Some x) = length x.window.pages
+
+-- the host pages of the window of an engine's element
+abbrev pub held_on : Vgpu → ℕ → ℕ
+held_on v engine = window_pages (engine_at v engine).element
+
+-- How many host pages the guest has: its frames, its shadow tables, and the windows of its elements at work.
+abbrev pub own_live : Vgpu → ℕ
+own_live v = length (frames_of v.gtt).pages + own_pages v.gtt + (held_on v 0 + held_on v 1 + held_on v 2 + held_on v 3)
+
+-- live pages moved with the guest's own
+abbrev pub LiveMoves : Device → Device → ℕ → ℕ → Type 0
+LiveMoves d e before after = before ≤ d.live → e.live + before ≡ d.live + after
+
+-- ---- a call
+
+-- It holds again, over as many frames and the same ranges of the same guest. Nothing of the shared device changed but
+-- the guest's own part, and live pages move with the guest's own.
+pub record Keeps (here : ℕ → Bool) (d e : Device) (old new : Vgpu) : Type 0 where
+  pub holds : Holds e new here
+  pub number : number_of new.gtt ≡ number_of old.gtt
+  pub frames : length (frames_of new.gtt).pages ≡ length (frames_of old.gtt).pages
+  pub ranges : ranges_of new.gtt ≡ ranges_of old.gtt
+  pub outside : outside (guest_part (number_of old.gtt) (ranges_of old.gtt) here) e ≡ outside (guest_part (number_of old.gtt) (ranges_of old.gtt) here) d
+  pub live : LiveMoves d e (own_live old) (own_live new)
+
+-- It keeps that, and makes of the private device what this says, with these notices to the guest.
+pub record Makes (here : ℕ → Bool) (d e : Device) (old new : Vgpu) (w : Written) (notice : Notice) : Type 0 where
+  pub written : w ≡ record { device = private_of e new here; irq = notice.irq; reason = notice.failsafe }
+  pub keeps : Keeps here d e old new
+
+-- an interrupt at the most
+abbrev pub injected : Option ℕ → Notice
+injected irq = record { irq = irq; failsafe = None }
+
+-- What a call leaves after which the guest is to fail: it still occupies its part of the device, and its memory is this.
+pub record MayFail (here : ℕ → Bool) (d e : Device) (old new : Vgpu) (memory : Memory) : Type 0 where
+  pub occupies : Occupies e new here
+  pub number : number_of new.gtt ≡ number_of old.gtt
+  pub frames : length (frames_of new.gtt).pages ≡ length (frames_of old.gtt).pages
+  pub ranges : ranges_of new.gtt ≡ ranges_of old.gtt
+  pub outside : outside (guest_part (number_of old.gtt) (ranges_of old.gtt) here) e ≡ outside (guest_part (number_of old.gtt) (ranges_of old.gtt) here) d
+  pub live : LiveMoves d e (own_live old) (own_live new)
+  pub memory_is : memory_of e new.gtt ≡ memory
+
+-- what the guest is replied
+abbrev pub replied : GuestId → Answer → Notice → Reply
+replied guest answer notice = record { guest = guest; answer = answer; irq = notice.irq; failsafe = notice.failsafe }
+
+-- After a call that stopped, nothing changed but the guest's own part and faults. It stops by a fault only where one
+-- was counted.
+pub record Stops (here : ℕ → Bool) (d e : Device) (old : Vgpu) (stop : Stop) : Type 0 where
+  pub outside : outside (guest_part (number_of old.gtt) (ranges_of old.gtt) here) e ≡ outside (guest_part (number_of old.gtt) (ranges_of old.gtt) here) (with_faults d e.faults)
+  pub cause : stop ≡ DeviceFault → counted d.faults ≤ e.faults
+
+-- ---- a turn
+
+-- a command that ran, as the shared device's journal has it
+abbrev pub entry_of : PrivateEntry → JournalEntry
+entry_of entry = record { engine = entry.engine; owner = entry.guest; shape = entry.shape }
+
+-- the device with these commands in its journal
+abbrev pub journalled : Device → List PrivateEntry → Device
+journalled d ran = record d { journal = d.journal ++ map entry_of ran }
+
+-- A turn makes of the private device what this says, and the device's journal has the command that ran.
+pub record Turns (here : ℕ → Bool) (d e : Device) (old new : Vgpu) (t : Turned) (outcome : Outcome) (notice : Notice) : Type 0 where
+  pub outcome_is : t.outcome ≡ outcome
+  pub left : t.left ≡ record { device = private_of e new here; irq = notice.irq; reason = notice.failsafe }
+  pub keeps : Keeps here (journalled d t.ran) e old new

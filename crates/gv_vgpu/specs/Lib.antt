@@ -1,0 +1,16 @@
+pub mod Owners
+pub mod Vgpu
+pub mod General
+pub mod Standing
+pub mod Idle
+pub mod Changes
+pub mod Exchange
+pub mod Reset
+pub mod Listed
+pub mod Pair
+pub mod Loading
+pub mod Turn
+pub mod Access
+pub mod Laws
+pub mod Followed
+pub mod Seen
