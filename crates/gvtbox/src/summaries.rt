@@ -9,6 +9,7 @@ use std::alloc::Global;
 use std::test::Fail;
 
 const SUMMARY_OF_0: &str = "lines c9e\nbytes cd9b\nfold a4132724843ad2cc\n";
+
 const SUMMARY_OF_1: &str = "lines c61\nbytes c975\nfold fd1a848fd94a7c06\n";
 
 // Runs `gen` with a number, over a source that fails, and a sink that takes at most five bytes a call and fails at one
