@@ -8,6 +8,8 @@ mod engines;
 #[cfg(test)]
 mod layers;
 #[cfg(test)]
+mod refusals;
+#[cfg(test)]
 mod rows;
 #[cfg(test)]
 mod summaries;
