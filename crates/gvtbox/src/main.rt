@@ -15,6 +15,8 @@ mod rows;
 mod summaries;
 #[cfg(test)]
 mod switches;
+#[cfg(test)]
+mod upkeep;
 
 use gv_program::exit_code;
 use std::process::ExitCode;
