@@ -11,6 +11,3 @@ pub use laws::{
     elements_are_apart, elements_are_put_away, elements_go_on, elements_miss_other_parts,
     elements_stay, scans_may_be_loaded,
 };
-
-#[cfg(test)]
-mod tests;

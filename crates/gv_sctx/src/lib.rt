@@ -7,6 +7,3 @@ mod laws;
 
 pub use image::{fill, saved};
 pub use laws::{filled_images_are_loaded, stopped_contexts_come_back};
-
-#[cfg(test)]
-mod tests;

@@ -10,6 +10,3 @@ mod shadow;
 
 pub use laws::shadows_have_images;
 pub use shadow::{Shadow, build, drop_all};
-
-#[cfg(test)]
-mod tests;

@@ -3,24 +3,19 @@ ghost use Rattle.gv_gpu.specs.Device.{IsEmpty};
 ghost use Rattle.gv_scan.specs.Layout.{FitsWindow};
 ghost use Rattle.gv_sring.specs.Window.{Shows};
 
-use crate::{Shadow, build, drop_all};
+use crate::steps::{END, INTERRUPT, PRIVILEGED, ran};
 use gv_ctx::{Image, Saved};
 use gv_engine::SoftGpu;
 use gv_gpu::{Gpu, Step};
 use gv_scan::{Program, Reader, ScanFault, scan};
 use gv_sctx::fill;
+use gv_sring::{Shadow, build, drop_all};
 use gv_types::{EngineId, GuestId};
 use std::alloc::Global;
 use std::process::Abort;
 use std::test::Fail;
 
-const PRIVILEGED: u32 = 0x1880_0001;
-
 const SECOND: u32 = 0x18c0_0001;
-
-const END: u32 = 0x0500_0000;
-
-const INTERRUPT: u32 = 0x0100_0000;
 
 /// A guest that owns six pages, with a ring at page 2, a batch at page 4 and one of the second level at
 /// page 5.
@@ -74,19 +69,6 @@ fn image_of<G: Gpu>(gpu: &G, shadow: &Shadow) -> u64
 {
     let _ = gpu;
     shadow.image()
-}
-
-/// One step of engine 1, with the interrupt bits that it raises.
-fn ran<G: Gpu>(rt: &impl Abort, gpu: &mut G, words: &[u32], raised: u16) -> Result<(), Fail> {
-    gpu.reserve(1)?;
-    match gpu.step(EngineId(1))? {
-        Step::Ran { command, raise } => {
-            assert!(rt; command.words() == words);
-            assert_eq!(rt; raise, raised);
-        }
-        _ => panic!(rt; "no command ran"),
-    }
-    Ok(())
 }
 
 /// The guest's program runs from its copy, level by level: the second level was copied first, so that

@@ -4,8 +4,9 @@ ghost use Rattle.gv_element.specs.Works.{MayBeLoaded};
 ghost use Rattle.gv_gpu.specs.Device.{IsEmpty};
 ghost use Rattle.gv_scan.specs.Layout.{FitsWindow};
 
-use crate::Element;
+use crate::steps::{END, INTERRUPT, PRIVILEGED, ran};
 use gv_ctx::Image;
+use gv_element::Element;
 use gv_engine::SoftGpu;
 use gv_gpu::{Gpu, Step};
 use gv_scan::{Program, Reader, ScanFault, scan};
@@ -13,12 +14,6 @@ use gv_types::{EngineId, GuestId};
 use std::alloc::Global;
 use std::process::Abort;
 use std::test::Fail;
-
-const PRIVILEGED: u32 = 0x1880_0001;
-
-const END: u32 = 0x0500_0000;
-
-const INTERRUPT: u32 = 0x0100_0000;
 
 /// A guest that owns six pages, with a ring at page 2 and a batch at page 4.
 struct Guest;
@@ -65,19 +60,6 @@ fn program(alloc: Global) -> Result<Program, ScanFault>
     ensures runs { IfOk result (λ p. MayBeLoaded 1 p.ring.items p.batches.items) }
 {
     scan(alloc, EngineId(1), &image(), &Guest)
-}
-
-/// One step of engine 1, with the interrupt bits that it raises.
-fn ran<G: Gpu>(rt: &impl Abort, gpu: &mut G, words: &[u32], raised: u16) -> Result<(), Fail> {
-    gpu.reserve(1)?;
-    match gpu.step(EngineId(1))? {
-        Step::Ran { command, raise } => {
-            assert!(rt; command.words() == words);
-            assert_eq!(rt; raise, raised);
-        }
-        _ => panic!(rt; "no command ran"),
-    }
-    Ok(())
 }
 
 /// The element runs from its copy to its end.

@@ -2,7 +2,7 @@ use Rattle.std.proofs.Common.{sym, subst}
 use Rattle.gv_gpu.specs.Device.{Device}
 use Rattle.gv_element.specs.Works.{Rests}
 use Rattle.gv_element.proofs.Away.{stopped-rests}
-use Rattle.gv_element.proofs.tests.check_release.Goals as goal
+use Rattle.gv_copies.proofs.element.check_release.Goals as goal
 
 pub release-requires : goal.release-requires
 release-requires g c =

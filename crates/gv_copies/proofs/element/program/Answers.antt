@@ -1,7 +1,7 @@
 use Rattle.std.proofs.Common.{Result, Ok, Err}
 use Rattle.std.specs.Prelude.{IfOk}
 use Rattle.gv_element.proofs.Scans.{scanned-loads}
-use Rattle.gv_element.proofs.tests.program.Goals as goal
+use Rattle.gv_copies.proofs.element.program.Goals as goal
 
 where-ok : {A E : Type 0} (P Q : A → Type 0) (r : Result A E) → IfOk r P → ((x : A) → P x → Q x) → IfOk r Q
 where-ok P Q (Ok x) p then = then x p

@@ -1,7 +1,7 @@
 use Rattle.std.proofs.Common.{◌+◌, ◌%◌, ap, arith}
 use Rattle.gv_gpu.specs.Device.{Device}
 use Rattle.gv_gpu.specs.Part.{first_of_window}
-use Rattle.gv_sring.proofs.tests.check_shadow.Goals as goal
+use Rattle.gv_copies.proofs.window.check_shadow.Goals as goal
 
 pub build-requires-clause-absent : goal.build-requires-clause-absent
 build-requires-clause-absent g c = λ i h. ap (λ (d : Device). d.global (first_of_window 1 1 + i) % 2) c.requires

@@ -1,9 +1,9 @@
 ghost use Rattle.std.specs.Prelude.{◌≡◌, IsSome, IfOk};
 
-use crate::{fill, saved};
 use gv_ctx::{Batch, Saved};
 use gv_engine::SoftGpu;
 use gv_gpu::Gpu;
+use gv_sctx::{fill, saved};
 use gv_types::{GuestId, Label, OutOfMemory};
 use std::process::Abort;
 use std::test::Fail;

@@ -1,7 +1,7 @@
 use Rattle.std.proofs.Common.{◌≡◌, Option, Some, refl, ap, sym, subst, ◌∙◌}
 use Rattle.std.specs.Prelude.{IsSome}
 use Rattle.gv_types.specs.declared.ids.Label.{Label}
-use Rattle.gv_sring.proofs.tests.image_of.Goals as goal
+use Rattle.gv_copies.proofs.window.image_of.Goals as goal
 
 some : (o : Option Label) (l : Label) → o ≡ Some l → IsSome o
 some o l is = let there : IsSome (Some l) = refl in subst (λ (x : Option Label). IsSome x) (sym is) there
