@@ -17,6 +17,7 @@ ghost use Rattle.gv_gtt.specs.Standing.{Stands, Translates};
 
 use crate::Gtt;
 use gv_gpu::Gpu;
+use gv_guest::Memory;
 use gv_types::{PAGE_BYTES, Span, Width, half};
 
 fn is_in(span: &Span, page: u32) -> bool
@@ -31,6 +32,13 @@ impl Gtt {
         ensures { result ≡ length (frames_of self.now).pages }
     {
         self.memory.frames()
+    }
+
+    /// The guest's frames, with the host page of each.
+    pub fn memory(&self) -> &Memory
+        ensures { result.now ≡ self.now.memory }
+    {
+        &self.memory
     }
 
     /// Reads memory.

@@ -22,6 +22,14 @@ impl Vgpu {
         }
     }
 
+    /// The general registers that are kept for an engine while the guest doesn't own it.
+    pub fn kept(&self, engine: EngineId) -> &[u64; 16]
+        requires { engine.0 < 4 }
+        ensures { result.now ≡ (engine_at self.now engine.0).kept }
+    {
+        &self.engines[engine.0 as usize].kept
+    }
+
     // Keeps these general registers for an engine.
     fn keep(&mut self, engine: EngineId, kept: [u64; 16])
         requires engine { engine.0 < 4 }

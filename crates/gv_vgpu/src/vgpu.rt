@@ -11,6 +11,7 @@ ghost use Rattle.gv_sggtt.specs.Mirror.{AreAbsent};
 use crate::engine::{Engine, first_engines};
 use gv_gpu::Gpu;
 use gv_gtt::Gtt;
+use gv_guest::Memory;
 use gv_mmio::Mmio;
 use gv_types::{EngineId, GuestId, OutOfMemory, Ranges, Width};
 use std::alloc::Global;
@@ -106,5 +107,12 @@ impl Vgpu {
         ensures { result ≡ length (frames_of self.now.gtt).pages }
     {
         self.gtt.frames()
+    }
+
+    /// The guest's frames, with the host page of each.
+    pub fn memory(&self) -> &Memory
+        ensures { result.now ≡ frames_of self.now.gtt }
+    {
+        self.gtt.memory()
     }
 }
