@@ -5,12 +5,12 @@ use Rattle.gv_fetch.specs.Left.{Left}
 use Rattle.gv_gpu.specs.Change.{Leaves}
 use Rattle.gv_gpu.specs.Context.{context_of, state_dword}
 use Rattle.gv_gpu.specs.Device.{Device, Loaded}
-use Rattle.gv_gpu.specs.Part.{Part}
+use Rattle.gv_gpu.specs.Part.{Part, shadow_label}
 use Rattle.gv_gpu.proofs.Seen.{label-same, words-same, global-same, loaded-same}
 use Rattle.gv_place.specs.Seen.{left_seen}
 use Rattle.gv_place.proofs.Seeing.{left-seen}
 use Rattle.gv_sctx.specs.Image.{page_dword}
-use Rattle.gv_sctx.specs.Context.{shadow_label, HasImage, HoldsContext}
+use Rattle.gv_sctx.specs.Context.{HasImage, HoldsContext}
 use Rattle.gv_sctx.proofs.Saving.{state-dword}
 use Rattle.gv_sring.specs.Copy.{Copied}
 use Rattle.gv_sring.specs.Window.{Window, first_of, page_at, Shows, descriptor_at}

@@ -3,7 +3,7 @@ use Rattle.std.specs.Prelude.{◌≡◌, ◌≢◌, ℕ, ◌^◌, ◌<◌, Bool,
 use Rattle.gv_gpu.specs.Change.{Leaves}
 use Rattle.gv_gpu.specs.Context.{stopped, submitted}
 use Rattle.gv_gpu.specs.Device.{Device, Loaded, with_faults}
-use Rattle.gv_gpu.specs.Part.{Part, Within, outside, is_named, window_part, elements_part, standing_part, guest_part}
+use Rattle.gv_gpu.specs.Part.{Part, Within, outside, is_named, window_part, elements_part, standing_part, guest_part, shadow_label}
 use Rattle.gv_types.specs.declared.ranges.Ranges.{Ranges}
 use Rattle.gv_gpu.specs.Step.{moved}
 use Rattle.gv_ctx.specs.declared.saved.Saved.{Saved}
@@ -11,7 +11,7 @@ use Rattle.gv_fetch.specs.Left.{Left, IsLeft, moved as own_moved}
 use Rattle.gv_place.specs.Place.{StandsFor, KeepsShadow}
 use Rattle.gv_place.specs.Seen.{IsShort}
 use Rattle.gv_types.specs.declared.ids.Label.{Label}
-use Rattle.gv_sctx.specs.Context.{FitsDwords, shadow_label}
+use Rattle.gv_sctx.specs.Context.{FitsDwords}
 use Rattle.gv_sring.specs.Window.{Window, Shows, page_at, descriptor_at}
 use Rattle.gv_ctx.specs.Image.{IsImage}
 use Rattle.gv_ctx.specs.declared.image.Image.{Image}

@@ -8,9 +8,9 @@ use Rattle.gv_fetch.specs.Left.{Left, IsLeft, begun}
 use Rattle.gv_cmd.specs.declared.stands.Stands.TheVariants.{Ring}
 use Rattle.gv_gpu.specs.Context.{context_of}
 use Rattle.gv_gpu.specs.Device.{Device, Loaded, with_loaded, with_spare}
-use Rattle.gv_gpu.specs.Part.{Part, is_named, is_shadow_of, is_in_window}
+use Rattle.gv_gpu.specs.Part.{Part, is_named, is_shadow_of, is_in_window, shadow_label}
 use Rattle.gv_scan.specs.Layout.{Layout, IsProgram}
-use Rattle.gv_sctx.specs.Context.{shadow_label, HoldsContext, FitsDwords}
+use Rattle.gv_sctx.specs.Context.{HoldsContext, FitsDwords}
 use Rattle.gv_sctx.specs.Image.{image_fields, dwords_poked}
 use Rattle.gv_sring.specs.Window.{Window, first_of, page_at, Shows, ring_address, batches_address, descriptor_at}
 use Rattle.gv_place.specs.Laws.{front_place}

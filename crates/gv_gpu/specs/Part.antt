@@ -64,6 +64,10 @@ abbrev pub is_frame_of : ℕ → Option Label → Bool
 is_frame_of guest None = false
 is_frame_of guest (Some l) = (l.guest.0 == guest) && not l.shadow
 
+-- the label of a guest's shadow pages
+abbrev pub shadow_label : ℕ → Label
+shadow_label guest = record { guest = record { 0 = guest }; shadow = true }
+
 abbrev pub is_shadow_of : ℕ → Option Label → Bool
 is_shadow_of guest None = false
 is_shadow_of guest (Some l) = (l.guest.0 == guest) && l.shadow

@@ -15,7 +15,7 @@ use Rattle.gv_entry.specs.declared.process.Process.{Process}
 use Rattle.gv_entry.specs.declared.process.Process.TheVariants.{Absent, Table, Large, Page, Bad}
 use Rattle.gv_gpu.specs.Change.{ChangesOnly}
 use Rattle.gv_gpu.specs.Device.{Device}
-use Rattle.gv_gpu.specs.Part.{frames_part}
+use Rattle.gv_gpu.specs.Part.{frames_part, shadow_label}
 use Rattle.gv_guest.specs.Placed.{Placed, Hosts, memory_in}
 use Rattle.gv_guest.specs.Move.{MovesFrame, IfMoved, UnlessMoved}
 use Rattle.gv_guest.specs.declared.memory.Memory.{Memory}
@@ -24,7 +24,7 @@ use Rattle.gv_guest.specs.declared.page_move.PageMove.TheVariants as page
 use Rattle.gv_private.specs.Device.{PrivateDevice}
 use Rattle.gv_private.specs.Grants.{names_frame, is_granted, move_answer}
 use Rattle.gv_shape.specs.Counts.{total, uses, leaves, maps, one_if}
-use Rattle.gv_shape.specs.Shadow.{Names, Pages, Readings, has_leaves, leaf_word, shadow_label}
+use Rattle.gv_shape.specs.Shadow.{Names, Pages, Readings, has_leaves, leaf_word}
 use Rattle.gv_shape.specs.Shadows.{KeepsPages}
 use Rattle.gv_shape.proofs.Totals.{total-at}
 use Rattle.gv_sggtt.specs.Linked.{is_frame, names}

@@ -6,11 +6,10 @@ use Rattle.gv_types.specs.declared.ranges.Ranges.{Ranges}
 use Rattle.gv_entry.specs.Ranges.{owns_page}
 use Rattle.gv_gpu.specs.Change.{Leaves}
 use Rattle.gv_gpu.specs.Device.{Device}
-use Rattle.gv_gpu.specs.Part.{Part, Within, inside, guest_part, standing_part, is_in_windows, is_named, is_page_of, is_shadow_of, is_frame_of}
+use Rattle.gv_gpu.specs.Part.{Part, Within, inside, guest_part, standing_part, is_in_windows, is_named, is_page_of, is_shadow_of, is_frame_of, shadow_label}
 use Rattle.gv_gpu.proofs.Parts.{outside-widen}
 use Rattle.gv_guest.specs.Placed.{Placed, frame_label}
 use Rattle.gv_guest.proofs.Written.{own_frame}
-use Rattle.gv_shape.specs.Shadow.{shadow_label}
 use Rattle.gv_sppgtt.specs.State.{own_in}
 use Rattle.gv_sppgtt.proofs.OwnPages.{page-own}
 use Rattle.gv_gtt.specs.Changes.{Changes}

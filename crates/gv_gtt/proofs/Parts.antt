@@ -6,11 +6,11 @@ use Rattle.gv_types.specs.declared.ids.Label.{Label}
 use Rattle.gv_types.specs.declared.ranges.Ranges.{Ranges}
 use Rattle.gv_gpu.specs.Change.{ChangesOnly, Leaves}
 use Rattle.gv_gpu.specs.Device.{Device}
-use Rattle.gv_gpu.specs.Part.{Part, Apart, Within, outside, frames_part, entries_part, is_frame_of, is_shadow_of}
+use Rattle.gv_gpu.specs.Part.{Part, Apart, Within, outside, frames_part, entries_part, is_frame_of, is_shadow_of, shadow_label}
 use Rattle.gv_gpu.proofs.Changes.{leaves}
 use Rattle.gv_gpu.proofs.Parts.{outside-widen}
 use Rattle.gv_gpu.proofs.Seen.{label-same, words-same}
-use Rattle.gv_shape.specs.Shadow.{Pages, shadow_label}
+use Rattle.gv_shape.specs.Shadow.{Pages}
 use Rattle.gv_shape.specs.Shadows.{KeepsPages}
 use Rattle.gv_sppgtt.specs.State.{own_part, shadow_part}
 use Rattle.gv_sppgtt.specs.declared.tables.Tables.{Tables}

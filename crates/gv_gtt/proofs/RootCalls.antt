@@ -12,12 +12,11 @@ use Rattle.gv_entry.specs.Global.{zero_entries, pages_of as entries_in}
 use Rattle.gv_entry.specs.Ranges.{InParts}
 use Rattle.gv_gpu.specs.Change.{ChangesOnly}
 use Rattle.gv_gpu.specs.Device.{Device}
-use Rattle.gv_gpu.specs.Part.{outside, frames_part, entries_part, is_shadow_of}
+use Rattle.gv_gpu.specs.Part.{outside, frames_part, entries_part, is_shadow_of, shadow_label}
 use Rattle.gv_guest.specs.Placed.{Placed, Hosts, KeepsMemory, memory_in, frame_label}
 use Rattle.gv_guest.specs.declared.memory.Memory.{Memory}
 use Rattle.gv_private.specs.Device.{PrivateDevice}
 use Rattle.gv_private.specs.Roots.{announced, with_root}
-use Rattle.gv_shape.specs.Shadow.{shadow_label}
 use Rattle.gv_sggtt.specs.Mirror.{AreAbsent, Mirrors}
 use Rattle.gv_sggtt.specs.Pins.{table_pins, ChangesOwnPins}
 use Rattle.gv_sggtt.specs.Table.{Table, IsTable, guards, zero_table}

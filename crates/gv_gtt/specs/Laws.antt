@@ -5,12 +5,11 @@ use Rattle.gv_entry.specs.Ranges.{owns_page}
 use Rattle.gv_entry.specs.SameTables.{SameTables}
 use Rattle.gv_gpu.specs.Change.{Leaves}
 use Rattle.gv_gpu.specs.Device.{Device}
-use Rattle.gv_gpu.specs.Part.{Part, outside, guest_part}
+use Rattle.gv_gpu.specs.Part.{Part, outside, guest_part, shadow_label}
 use Rattle.gv_guest.specs.Placed.{Hosts, frame_label}
 use Rattle.gv_private.specs.Device.{PrivateDevice}
 use Rattle.gv_private.specs.Grants.{page_grant}
 use Rattle.gv_sggtt.specs.Mirror.{NamesFrame}
-use Rattle.gv_shape.specs.Shadow.{shadow_label}
 use Rattle.gv_shape.specs.Shadows.{Shadows, KeepsPages}
 use Rattle.gv_gtt.specs.Gtt.{gtt_part, frames_of, number_of, ranges_of, memory_of, roots_in, nodes_in, own_pages, over, HasRoomFor}
 use Rattle.gv_gtt.specs.Changes.{Changes}

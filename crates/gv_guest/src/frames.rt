@@ -170,7 +170,7 @@ fn copy_words<G: Gpu>(gpu: &mut G, from: u64, to: u64)
     requires apart { from ≢ to }
     ensures { CopiesPage (G.state gpu.old) (G.state gpu.new) from to }
 {
-    for index in 0..512 {
+    for index in 0..PAGE_WORDS {
         let word = gpu.word(from, index);
         gpu.poke(to, index, word);
     }

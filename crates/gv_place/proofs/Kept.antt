@@ -6,12 +6,11 @@ use Rattle.std.proofs.lemmas.Bool.Decides.{nat_tests}
 use Rattle.gv_types.specs.Memory.{half_of}
 use Rattle.gv_types.specs.declared.ids.Label.{Label}
 use Rattle.gv_gpu.specs.Device.{Device, Loaded}
-use Rattle.gv_gpu.specs.Part.{Part, inside, is_in_windows}
+use Rattle.gv_gpu.specs.Part.{Part, inside, is_in_windows, shadow_label}
 use Rattle.gv_gpu.specs.Physical.{page_of, read_page, word_in, byte_at, operand_at, dword_at}
 use Rattle.gv_gpu.proofs.Seen.{label-same, words-same, global-same}
 use Rattle.gv_scan.specs.Layout.{Layout}
 use Rattle.gv_fetch.specs.Left.{Left}
-use Rattle.gv_sctx.specs.Context.{shadow_label}
 use Rattle.gv_sring.specs.Copy.{Shown, HasCopy, Copied}
 use Rattle.gv_place.specs.Place.{StandsFor, KeepsShadow}
 

@@ -10,9 +10,9 @@ use Rattle.gv_cmd.proofs.Simulation.{effects_agree}
 use Rattle.gv_gpu.specs.Device.{Device}
 use Rattle.gv_gpu.specs.Physical.{write_page, word_stored, operand_stored, byte_stored}
 use Rattle.gv_gpu.specs.Step.{Stepping, bytes_stored, operations}
-use Rattle.gv_sctx.specs.Context.{shadow_label}
 use Rattle.gv_place.specs.Place.{KeepsShadow, Unchanged, GoesElsewhere}
 use Rattle.gv_place.specs.Laws.{StoresKeep}
+use Rattle.gv_gpu.specs.Part.{shadow_label}
 
 -- No access that may be made, and no address of the root's memory, writes a shadow page of the guest's,
 -- whatever else was written before.

@@ -10,11 +10,11 @@ use Rattle.gv_fetch.specs.Items.{Items, MayAllStand}
 use Rattle.gv_fetch.specs.Left.{Left, IsLeft, begun, is_done, is_privileged as own_is_privileged, front, live_command, stands_of as own_stands_of, moved as own_moved}
 use Rattle.gv_gpu.specs.Context.{context_of, stopped, submitted}
 use Rattle.gv_gpu.specs.Device.{Device, Loaded, with_loaded}
-use Rattle.gv_gpu.specs.Part.{Part, inside, is_in_windows}
+use Rattle.gv_gpu.specs.Part.{Part, inside, is_in_windows, shadow_label}
 use Rattle.gv_gpu.specs.Step.{Stepping, operations, fetched, settled, moved, ran_after, has_ended, physical_step}
 use Rattle.gv_gpu.specs.declared.step.Step.TheVariants.{Ran, Waits, Ended}
 use Rattle.gv_scan.specs.Layout.{Layout, IsProgram, placed_layout}
-use Rattle.gv_sctx.specs.Context.{shadow_label, HasImage, HoldsContext, FitsDwords}
+use Rattle.gv_sctx.specs.Context.{HasImage, HoldsContext, FitsDwords}
 use Rattle.gv_sring.specs.Copy.{Copied}
 use Rattle.gv_place.specs.Place.{StandsFor, ReadsSame, KeepsShadow, GoesElsewhere}
 use Rattle.gv_place.specs.Seen.{left_seen, IsShort}

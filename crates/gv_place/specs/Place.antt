@@ -7,10 +7,9 @@ use Rattle.gv_ctx.specs.declared.saved.Batch.{Batch}
 use Rattle.gv_ctx.specs.declared.saved.Saved.{Saved}
 use Rattle.gv_fetch.specs.Left.{Level, Fetched, At, Left}
 use Rattle.gv_gpu.specs.Device.{Device, Loaded}
-use Rattle.gv_gpu.specs.Part.{is_in_windows}
+use Rattle.gv_gpu.specs.Part.{is_in_windows, shadow_label}
 use Rattle.gv_gpu.specs.Physical.{dword_at, write_page}
 use Rattle.gv_scan.specs.Layout.{Layout, RingAt, BatchAt}
-use Rattle.gv_sctx.specs.Context.{shadow_label}
 use Rattle.gv_sring.specs.Copy.{Copied}
 
 -- a batch of a place, and the level that it stands for

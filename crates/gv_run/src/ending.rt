@@ -16,7 +16,10 @@ use gv_lines::{Outlet, ReportWriter};
 use gv_mediator::{Mediator, devices_have_memories};
 use gv_outside::Sink;
 use gv_text::{Ending, ReportLine};
-use gv_types::{GuestId, OutOfMemory};
+use gv_types::{GuestId, OutOfMemory, PAGE_WORDS};
+
+// Words of a frame.
+const WORDS: u64 = PAGE_WORDS as u64;
 
 // Tells a word of memory, unless it is 0.
 #[tactic(auto, using(gv_machine::proofs::Text::said_none))]
@@ -54,7 +57,7 @@ fn tell_memory<K: Sink, G: Gpu>(
     ensures device { result ≢ Err Stopped.Device }
 {
     devices_have_memories();
-    for number in 0..u64::from(mediator.frames(gpu, guest)) * 512 {
+    for number in 0..u64::from(mediator.frames(gpu, guest)) * WORDS {
         let value = mediator.memory_word(gpu, guest, number * 8);
         tell_word(report, guest, number * 8, value)?;
         report.pass_to(outlet, sink)?;

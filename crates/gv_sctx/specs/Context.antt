@@ -1,16 +1,12 @@
 -- A context and its image: the image is reached through the entry behind the descriptor's page.
 use Rattle.std.specs.Prelude.{ℕ, ◌+◌, ◌*◌, ◌/◌, ◌^◌, ◌<◌, ◌≡◌, true, List, length, slice_index, None, Some}
-use Rattle.gv_types.specs.declared.ids.Label.{Label}
 use Rattle.gv_ctx.specs.Descriptor.{descriptor_of}
 use Rattle.gv_ctx.specs.Saved.{fields_of}
 use Rattle.gv_ctx.specs.declared.saved.Saved.{Saved}
 use Rattle.gv_gpu.specs.Device.{Device, Loaded, with_loaded}
 use Rattle.gv_gpu.specs.Context.{state_dword, context_of, stopped, submitted}
 use Rattle.gv_sctx.specs.Image.{image_fields, AreDwords, filled_words, saved_in}
-
--- the label of a guest's shadow pages
-abbrev pub shadow_label : ℕ → Label
-shadow_label guest = record { guest = record { 0 = guest }; shadow = true }
+use Rattle.gv_gpu.specs.Part.{shadow_label}
 
 -- the global page of a descriptor
 abbrev pub window_page : ℕ → ℕ

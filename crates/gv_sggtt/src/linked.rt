@@ -7,7 +7,7 @@ ghost use Rattle.gv_sggtt.specs.Linked.{leaf_of, leaves_from, names, chains_with
 use crate::entries::Entries;
 use gv_entry::global_of;
 use gv_rmap::{Chains, Leaf, Walk};
-use gv_types::OutOfMemory;
+use gv_types::{OutOfMemory, PAGE_WORDS};
 use std::alloc::Global;
 use std::marker::Model;
 
@@ -39,8 +39,8 @@ fn leaf_of(slot: usize) -> Leaf
     ensures { result ≡ leaf_of slot }
 {
     Leaf {
-        page: (slot / 512) as u64,
-        index: (slot % 512) as u16,
+        page: (slot / PAGE_WORDS) as u64,
+        index: (slot % PAGE_WORDS) as u16,
         writable: true,
     }
 }
@@ -50,7 +50,7 @@ pub(crate) fn slot_of_leaf(leaf: Leaf) -> usize
     requires { leaf.page < 2 ^ 32 }
     ensures { result ≡ leaf.page * 512 + leaf.index }
 {
-    leaf.page as usize * 512 + leaf.index as usize
+    leaf.page as usize * PAGE_WORDS + leaf.index as usize
 }
 
 fn unlink(chains: &mut Chains, frame: Option<u32>, slot: usize)

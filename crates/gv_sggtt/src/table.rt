@@ -15,7 +15,7 @@ use crate::linked::{LinkedEntries, slot_of_leaf};
 use gv_entry::global_of;
 use gv_gpu::Gpu;
 use gv_guest::{Frames, Memory, Pins};
-use gv_types::{OutOfMemory, Ranges, Span};
+use gv_types::{OutOfMemory, PAGE_BYTES, Ranges, Span};
 use std::alloc::Global;
 use std::marker::Model;
 
@@ -98,7 +98,7 @@ fn physical(memory: &Frames, frame: Option<u32>) -> u64
     ensures { NamesFrame memory.now frame result }
 {
     match frame {
-        Some(frame) => memory.page(frame) * 4096 + 3,
+        Some(frame) => memory.page(frame) * PAGE_BYTES + 3,
         None => ABSENT,
     }
 }

@@ -11,7 +11,8 @@ use Rattle.gv_gpu.specs.Device.{Device}
 use Rattle.gv_gpu.specs.Physical.{live_page, page_of, entry_in, third_table, second_table, first_table, leaf, read_page, write_page}
 use Rattle.gv_guest.specs.Placed.{Placed, Hosts}
 use Rattle.gv_shape.specs.Shadows.{host_page}
-use Rattle.gv_shape.specs.Shadow.{Pages, shadow_label, split_level, has_leaves, table_word, split_word, leaf_word, Names, Local, wanted}
+use Rattle.gv_shape.specs.Shadow.{Pages, split_level, has_leaves, table_word, split_word, leaf_word, Names, Local, wanted}
+use Rattle.gv_gpu.specs.Part.{shadow_label}
 
 -- where a walk ends, and the physical entry there
 abbrev pub Leads : Placed → (ℕ → Bool) → Option Mapped → ℕ → Type 0

@@ -4,7 +4,7 @@ use Rattle.std.specs.List.{range_with_len}
 use Rattle.gv_types.specs.Memory.{Memory}
 use Rattle.gv_gpu.specs.Device.{Device}
 use Rattle.std.proofs.lemmas.Bool.{eq-eqb, false_from_ne_true}
-use Rattle.gv_gpu.specs.Part.{outside, is_named, is_shadow_of, tables_part}
+use Rattle.gv_gpu.specs.Part.{outside, is_named, is_shadow_of, tables_part, shadow_label}
 use Rattle.gv_guest.specs.Placed.{Placed, memory_in}
 use Rattle.gv_nodes.specs.NodeMap.{NodeMap, AreNodes}
 use Rattle.gv_rmap.specs.declared.leaf.Leaf.{Leaf}
@@ -17,7 +17,6 @@ use Rattle.gv_sppgtt.specs.Holding.{Holds, Keeps}
 use Rattle.gv_sppgtt.specs.Serving.{roots_of, Serves, ChangesTables, IsReady}
 use Rattle.gv_sppgtt.specs.Clearing.{AreNone}
 use Rattle.gv_sppgtt.specs.declared.tables.Tables.{Tables}
-use Rattle.gv_shape.specs.Shadow.{shadow_label}
 use Rattle.gv_sppgtt.proofs.OwnPages.{own-page, page-own}
 use Rattle.gv_sppgtt.proofs.Fresh.{empty-serves, no_count, no_leaf}
 use Rattle.gv_sppgtt.proofs.Serving.{filter-none, filter-same}

@@ -4,12 +4,12 @@ use Rattle.std.proofs.lemmas.Bool.{cases_eq, eq-eqb, ne_eqb}
 use Rattle.gv_entry.specs.declared.process.Process.{Process}
 use Rattle.gv_entry.specs.declared.process.Process.TheVariants.{Absent, Table, Page, Bad, Large}
 use Rattle.gv_gpu.specs.Device.{Device, released}
-use Rattle.gv_gpu.specs.Part.{outside, is_shadow_of}
+use Rattle.gv_gpu.specs.Part.{outside, is_shadow_of, shadow_label}
 use Rattle.gv_gpu.proofs.Changed.{outside-released}
 use Rattle.gv_guest.specs.Placed.{Placed}
 use Rattle.gv_nodes.specs.NodeMap.{NodeMap}
 use Rattle.gv_rmap.specs.Chains.{ReverseMap}
-use Rattle.gv_shape.specs.Shadow.{Pages, Readings, Names, shadow_label}
+use Rattle.gv_shape.specs.Shadow.{Pages, Readings, Names}
 use Rattle.gv_shape.specs.Counts.{uses, one_if, namings, naming, above, names_node}
 use Rattle.gv_shape.proofs.Totals.{total-same}
 use Rattle.gv_sppgtt.specs.Sound.{decode, reading_at, readings_in, pages_in, parents_in, flag, Sound}

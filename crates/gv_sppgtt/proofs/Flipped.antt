@@ -6,9 +6,10 @@ use Rattle.gv_entry.specs.declared.process.Process.{Process}
 use Rattle.gv_entry.specs.declared.process.Process.TheVariants.{Absent, Table, Page, Bad, Large}
 use Rattle.gv_gpu.specs.Device.{Device, poked}
 use Rattle.gv_guest.specs.Placed.{Placed}
-use Rattle.gv_shape.specs.Shadow.{Pages, Readings, Names, shadow_label, leaf_word, has_leaves}
+use Rattle.gv_shape.specs.Shadow.{Pages, Readings, Names, leaf_word, has_leaves}
 use Rattle.gv_sppgtt.specs.Sound.{decode, reading_at, readings_in, Boarded}
 use Rattle.gv_sppgtt.proofs.Decoded.{decode-odd, leaf-odd, leaf-page, leaf-wanted, decode-leaf}
+use Rattle.gv_gpu.specs.Part.{shadow_label}
 
 -- the guards at each key
 abbrev pub Guards : Type 0

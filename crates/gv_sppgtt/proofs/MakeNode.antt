@@ -11,13 +11,14 @@ use Rattle.gv_guest.specs.Placed.{Placed, Hosts}
 use Rattle.gv_nodes.specs.declared.nodes.Node.{Node}
 use Rattle.gv_nodes.specs.NodeMap.{NodeMap}
 use Rattle.gv_rmap.specs.Chains.{ReverseMap}
-use Rattle.gv_shape.specs.Shadow.{Pages, Readings, Names, Local, shadow_label, split_level}
+use Rattle.gv_shape.specs.Shadow.{Pages, Readings, Names, Local, split_level}
 use Rattle.gv_shape.specs.Counts.{uses, one_if, above, names_node}
 use Rattle.gv_shape.proofs.Totals.{total-same}
 use Rattle.gv_nodes.specs.NodeOf.{node_of}
 use Rattle.gv_sppgtt.specs.Sound.{page_of_node, parents_of_node, decode, reading_at, readings_in, pages_in, parents_in, flag, Boarded, Sound, IsWhole}
 use Rattle.gv_sppgtt.specs.Grown.{Made}
 use Rattle.gv_sppgtt.proofs.Entered.{decode-kept}
+use Rattle.gv_gpu.specs.Part.{shadow_label}
 
 zero_word : (i : ℕ) → get_or zero_words i 0 ≡ 0
 unfolding zero_words

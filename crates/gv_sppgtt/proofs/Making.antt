@@ -2,13 +2,13 @@
 use Rattle.std.proofs.Common.{List, ℕ, ◌+◌, ◌*◌, ◌^◌, ◌≡◌, ◌/◌, ◌≤◌, ◌<◌, true, false, Some, None, [], length, get_or, set, refl, sym, ap, ◌∙◌, subst, arith, ⊎_elim}
 use Rattle.std.proofs.lemmas.Bool.{cases_eq, false≢true}
 use Rattle.gv_gpu.specs.Device.{Device, added}
-use Rattle.gv_gpu.specs.Part.{outside}
+use Rattle.gv_gpu.specs.Part.{outside, shadow_label}
 use Rattle.gv_guest.specs.Placed.{Placed}
 use Rattle.gv_nodes.specs.NodeMap.{NodeMap, AreNodes, reserved}
 use Rattle.gv_rmap.specs.declared.leaf.Leaf.{Leaf}
 use Rattle.gv_rmap.specs.Leaves.{leaf_at, IsInOrder}
 use Rattle.gv_rmap.specs.Chains.{ReverseMap}
-use Rattle.gv_shape.specs.Shadow.{Pages, shadow_label}
+use Rattle.gv_shape.specs.Shadow.{Pages}
 use Rattle.gv_shape.specs.Counts.{leaves, maps}
 use Rattle.gv_sppgtt.specs.Sound.{pages_in, parents_in, page_of_node, parents_of_node, readings_in, IsWhole}
 use Rattle.gv_sppgtt.specs.State.{Touches, own_in, pages_of, parents_of, readings_of, sketch_of, shadow_part}

@@ -5,14 +5,13 @@ use Rattle.std.proofs.lemmas.Bool.Decides.{nat_tests}
 use Rattle.std.proofs.Common.{arith}
 use Rattle.gv_types.specs.declared.ids.Label.{Label}
 use Rattle.gv_gpu.specs.Device.{Device, added, poked}
-use Rattle.gv_gpu.specs.Part.{outside, Apart, frames_part, is_shadow_of, is_frame_of}
+use Rattle.gv_gpu.specs.Part.{outside, Apart, frames_part, is_shadow_of, is_frame_of, shadow_label}
 use Rattle.gv_gpu.specs.Change.{Leaves}
 use Rattle.gv_gpu.proofs.Changes.{leaves-outside}
 use Rattle.gv_gpu.proofs.Changed.{outside-added, outside-poked}
 use Rattle.gv_guest.specs.Placed.{Placed, Hosts, memory_in}
 use Rattle.gv_guest.proofs.Kept.{stands-kept, memory-kept}
 use Rattle.gv_guest.proofs.Written.{own_frame}
-use Rattle.gv_shape.specs.Shadow.{shadow_label}
 use Rattle.gv_sppgtt.specs.State.{shadow_part}
 
 not_frame : (g : ℕ) (l : Option Label) → is_shadow_of g l ≡ true → is_frame_of g l ≡ false

@@ -10,13 +10,12 @@ use Rattle.gv_types.specs.Maps.{put}
 use Rattle.gv_types.specs.declared.ids.Label.{Label}
 use Rattle.gv_types.specs.Memory.{zero_words}
 use Rattle.gv_gpu.specs.Device.{Device, added, released, poked}
-use Rattle.gv_gpu.specs.Part.{Within, outside, is_named, is_shadow_of, tables_part}
+use Rattle.gv_gpu.specs.Part.{Within, outside, is_named, is_shadow_of, tables_part, shadow_label}
 use Rattle.gv_gpu.proofs.Changed.{outside-poked}
 use Rattle.gv_nodes.specs.declared.nodes.Node.{Node}
 use Rattle.gv_nodes.specs.NodeMap.{NodeMap, node_at, AreNodes}
 use Rattle.gv_nodes.specs.NodeOf.{node_of}
 use Rattle.gv_nodes.proofs.NodeOf.{node_of-is, node_of-from, same_number}
-use Rattle.gv_shape.specs.Shadow.{shadow_label}
 use Rattle.gv_sppgtt.specs.Sound.{page_of_node, pages_in}
 use Rattle.gv_sppgtt.specs.State.{page_list, own_in, shadow_part}
 

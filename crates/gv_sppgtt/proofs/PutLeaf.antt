@@ -9,7 +9,7 @@ use Rattle.gv_guest.specs.Placed.{Placed, Hosts, frame_label}
 use Rattle.gv_nodes.specs.NodeMap.{NodeMap}
 use Rattle.gv_rmap.specs.Leaves.{leaf_at}
 use Rattle.gv_rmap.specs.Chains.{ReverseMap, chain_of}
-use Rattle.gv_shape.specs.Shadow.{Readings, Names, shadow_label, has_leaves}
+use Rattle.gv_shape.specs.Shadow.{Readings, Names, has_leaves}
 use Rattle.gv_shape.specs.Counts.{total, uses, maps, one_if, leaves, names_node, namings, above}
 use Rattle.gv_shape.proofs.Totals.{total-at, total-bound}
 use Rattle.gv_sppgtt.specs.Sound.{AreInOrder, decode, reading_at, readings_in, pages_in, flag, Pinned, Enters, Sound, IsLinked, place_leaf}
@@ -18,6 +18,7 @@ use Rattle.gv_sppgtt.proofs.Entered.{enters, local-entered, boarded-entered, use
 use Rattle.gv_sppgtt.proofs.Leaves.{chained-entered}
 use Rattle.gv_sppgtt.proofs.Words.{leaf-names}
 use Rattle.std.proofs.lemmas.Bool.Decides.{nat_tests}
+use Rattle.gv_gpu.specs.Part.{shadow_label}
 
 pub uses-at : (frames : ℕ) (r : Readings) (level f i : ℕ) (test : Process → Bool) → f < frames → i < 512 → test (r level f i) ≡ true → 1 ≤ uses frames r level test
 uses-at frames r level f i test low within is =

@@ -6,10 +6,11 @@ use Rattle.gv_gpu.specs.Device.{Device}
 use Rattle.gv_guest.specs.Placed.{Placed}
 use Rattle.gv_nodes.specs.NodeMap.{NodeMap}
 use Rattle.gv_rmap.specs.Chains.{ReverseMap}
-use Rattle.gv_shape.specs.Shadow.{Local, shadow_label}
+use Rattle.gv_shape.specs.Shadow.{Local}
 use Rattle.gv_sppgtt.specs.Sound.{Sound, Boarded, Chained, Pinned, readings_in, pages_in, parents_in, flag}
 use Rattle.gv_shape.specs.Counts.{namings}
 use Rattle.gv_sppgtt.specs.Grown.{count_of}
+use Rattle.gv_gpu.specs.Part.{shadow_label}
 
 pub label-is : (g : GuestId) (n : ℕ) → g.0 ≡ n → ◌≡◌ {A = Label} (record { guest = g; shadow = true }) (shadow_label n)
 label-is g n e = λ i. record { guest = record { 0 = e i }; shadow = true }

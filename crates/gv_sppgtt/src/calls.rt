@@ -18,11 +18,11 @@ use gv_gpu::Gpu;
 use gv_guest::{Frames, Memory, Pins};
 use gv_nodes::Nodes;
 use gv_rmap::Chains;
-use gv_types::{GuestId, OutOfMemory};
+use gv_types::{GuestId, MAX_LIVE_PAGES, OutOfMemory};
 use std::alloc::Global;
 
 // Host pages go by numbers below this one.
-const PAGES: usize = 131072;
+const PAGES: usize = MAX_LIVE_PAGES as usize;
 
 impl Tables {
     /// No roots and no shadow tables, for a guest with so many frames.

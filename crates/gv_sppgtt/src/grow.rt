@@ -16,7 +16,7 @@ use crate::tables::{BLOCK, Child, TableFault, Word};
 use gv_entry::{Process, process_of};
 use gv_gpu::Gpu;
 use gv_guest::{Frames, Pins};
-use gv_types::{Label, OutOfMemory, Width};
+use gv_types::{Label, OutOfMemory, PAGE_BYTES, PAGE_WORDS, Width};
 
 impl Tables {
     // Puts a table, or none, into a word of a table of level 2 to 4. It pokes that word alone.
@@ -82,7 +82,7 @@ impl Tables {
         ensures spare { OnOk result (has_leaves level ≡ true → 512 ≤ self.new.chains.spare) }
     {
         if level == 1 || level > 4 {
-            self.chains.reserve(512)?;
+            self.chains.reserve(PAGE_WORDS as u32)?;
         }
         Ok(())
     }
@@ -249,7 +249,7 @@ impl Tables {
         requires within { index < 512 }
         ensures { result ≡ entry_of (memory_in (G.state gpu.now) frames.now) level frame index }
     {
-        let at = u64::from(frame) * 4096 + u64::from(index) * 8;
+        let at = u64::from(frame) * PAGE_BYTES + u64::from(index) * 8;
         process_of(frames.read(gpu, at, Width::Eight), level, frames.count())
     }
 
@@ -380,11 +380,11 @@ fn table_word(child: Option<Child>) -> u64
     match child {
         Some(child) => {
             if child.level < 5 {
-                child.page * 4096 + 3
+                child.page * PAGE_BYTES + 3
             } else if child.level == 5 {
-                child.page * 4096 + 15
+                child.page * PAGE_BYTES + 15
             } else {
-                child.page * 4096 + 7
+                child.page * PAGE_BYTES + 7
             }
         }
         None => 0,

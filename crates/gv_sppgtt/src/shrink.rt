@@ -15,6 +15,7 @@ use crate::grow::split_level;
 use crate::tables::BLOCK;
 use gv_gpu::Gpu;
 use gv_guest::{Frames, Pins};
+use gv_types::PAGE_BYTES;
 
 impl Tables {
     // Takes a parent from the node of a frame at a level, and answers its page where that was the last.
@@ -142,7 +143,7 @@ impl Tables {
         if word % 2 == 0 {
             return None;
         }
-        let owner = self.owners[(word / 4096) as usize];
+        let owner = self.owners[(word / PAGE_BYTES) as usize];
         if word / 4 % 2 == 1 {
             Some((owner, split_level(word / 8 % 2 == 1)))
         } else {

@@ -14,7 +14,7 @@ use gv_gpu::Gpu;
 use gv_guest::{Frames, Pins};
 use gv_nodes::Nodes;
 use gv_rmap::{Chains, Leaf};
-use gv_types::{GuestId, OutOfMemory};
+use gv_types::{GuestId, OutOfMemory, PAGE_BYTES};
 use std::alloc::Global;
 use std::error::Error;
 use std::fmt;
@@ -96,7 +96,7 @@ impl Tables {
         if word % 2 == 0 {
             return None;
         }
-        Some(self.owners[(word / 4096) as usize])
+        Some(self.owners[(word / PAGE_BYTES) as usize])
     }
 
     // Takes the leaf that a word names out of its chain, if it names one.
@@ -262,5 +262,5 @@ pub(crate) fn leaf_word(page: u64, writable: bool, guarded: bool) -> u64
 {
     let wanted = if writable { 4 } else { 0 };
     let allowed = if writable && !guarded { 2 } else { 0 };
-    page * 4096 + (wanted + allowed + 1)
+    page * PAGE_BYTES + (wanted + allowed + 1)
 }

@@ -6,9 +6,8 @@ use Rattle.std.proofs.lemmas.List.Folds.{list_any-append, list_any_at}
 use Rattle.std.proofs.lemmas.Grind.{common_steps}
 use Rattle.gv_types.specs.Maps.{put}
 use Rattle.gv_gpu.specs.Device.{Device, added, released}
-use Rattle.gv_gpu.specs.Part.{outside, is_named, is_shadow_of, window_part}
+use Rattle.gv_gpu.specs.Part.{outside, is_named, is_shadow_of, window_part, shadow_label}
 use Rattle.gv_gpu.proofs.Changed.{outside-added, outside-released}
-use Rattle.gv_sctx.specs.Context.{shadow_label}
 
 named_last : (own : List ℕ) (page n : ℕ) → is_named (own ++ page ∷ []) n ≡ (is_named own n || (eqb page n || false))
 named_last own page n = list_any-append (λ p. eqb p n) own (page ∷ [])

@@ -5,9 +5,9 @@ use Rattle.std.proofs.lemmas.Bool.Decides.{nat_tests}
 use Rattle.gv_types.specs.Memory.{half_of}
 use Rattle.gv_types.specs.declared.ids.Label.{Label}
 use Rattle.gv_gpu.specs.Device.{Device}
-use Rattle.gv_gpu.specs.Part.{is_in_windows}
+use Rattle.gv_gpu.specs.Part.{is_in_windows, shadow_label}
 use Rattle.gv_gpu.specs.Physical.{page_of, read_page, word_in, byte_at, operand_at, dword_at}
-use Rattle.gv_sctx.specs.Context.{shadow_label, HasImage}
+use Rattle.gv_sctx.specs.Context.{HasImage}
 use Rattle.gv_sring.specs.Copy.{Shown, HasCopy}
 use Rattle.gv_sring.specs.Packing.{HoldsPart, HoldsParts, count_of}
 use Rattle.gv_sring.specs.Window.{Window, first_of, slot_of, flags_of, page_at, ring_pages, Shows, descriptor_at}

@@ -6,9 +6,8 @@ use Rattle.std.proofs.lemmas.Grind.{common_steps}
 use Rattle.gv_types.specs.Maps.{put}
 use Rattle.gv_types.specs.Memory.{zero_words, length-zero_words}
 use Rattle.gv_gpu.specs.Device.{Device, added, released, with_global}
-use Rattle.gv_gpu.specs.Part.{outside, window_part, is_named, is_shadow_of}
+use Rattle.gv_gpu.specs.Part.{outside, window_part, is_named, is_shadow_of, shadow_label}
 use Rattle.gv_gpu.proofs.Changed.{outside-global}
-use Rattle.gv_sctx.specs.Context.{shadow_label}
 use Rattle.gv_sctx.specs.Image.{page_dword}
 use Rattle.gv_sring.specs.Window.{Window, first_of, slot_of, flags_of, page_at, most_pages, Shows, WindowIsAbsent, Grows}
 use Rattle.gv_sring.specs.Packing.{packed_into, words_in, HoldsPart, HoldsParts}

@@ -2,10 +2,9 @@
 use Rattle.std.specs.Prelude.{ℕ, ◌+◌, ◌*◌, ◌/◌, ◌%◌, ◌^◌, ◌<◌, ◌≤◌, List, ◌≡◌, ◌≢◌, true, length, slice_index, Some}
 use Rattle.std.specs.List.{concat}
 use Rattle.gv_gpu.specs.Device.{Device}
-use Rattle.gv_gpu.specs.Part.{is_in_windows}
+use Rattle.gv_gpu.specs.Part.{is_in_windows, shadow_label}
 use Rattle.gv_gpu.specs.Physical.{read_page, dword_at}
 use Rattle.gv_scan.specs.Layout.{Layout, IsLayout, placed_layout}
-use Rattle.gv_sctx.specs.Context.{shadow_label}
 use Rattle.gv_sctx.specs.Image.{page_dword}
 use Rattle.gv_sring.specs.Window.{Window, page_at, ring_address, batches_address}
 

@@ -1,8 +1,7 @@
 -- The pages of a shadow ring and of its image, and their entries in the window of a guest and engine.
 use Rattle.std.specs.Prelude.{ℕ, ◌+◌, ◌-◌, ◌*◌, ◌/◌, ◌%◌, ◌<◌, ◌≤◌, ◌≡◌, ◌≢◌, nat_lt, List, length, slice_index, if◌then◌else◌, Some}
 use Rattle.gv_gpu.specs.Device.{Device}
-use Rattle.gv_gpu.specs.Part.{first_of_window}
-use Rattle.gv_sctx.specs.Context.{shadow_label}
+use Rattle.gv_gpu.specs.Part.{first_of_window, shadow_label}
 
 -- Whose they are, the ring copy's length in bytes, and the host pages: the image's two, then those of the
 -- ring copy, then those of the batches.

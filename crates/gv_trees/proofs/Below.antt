@@ -6,13 +6,14 @@ use Rattle.gv_entry.specs.declared.process.Process.TheVariants.{Absent, Table, L
 use Rattle.gv_gpu.specs.Device.{Device}
 use Rattle.gv_guest.specs.Placed.{Placed}
 use Rattle.gv_types.specs.Memory.{Memory as Words}
-use Rattle.gv_shape.specs.Shadow.{Names, shadow_label, split_level, has_leaves}
+use Rattle.gv_shape.specs.Shadow.{Names, split_level, has_leaves}
 use Rattle.gv_shape.specs.Counts.{rank}
 use Rattle.gv_sppgtt.specs.Sound.{flag}
 use Rattle.gv_sppgtt.specs.State.{pages_of, readings_of}
 use Rattle.gv_sppgtt.specs.Serving.{Serves}
 use Rattle.gv_sppgtt.specs.declared.tables.Tables.{Tables}
 use Rattle.gv_trees.specs.Served.{IsTable}
+use Rattle.gv_gpu.specs.Part.{shadow_label}
 
 same_rank : (node level : ℕ) → rank node ≡ level → 2 ≤ level → (node ≡ level) × (node < 5)
 same_rank node level r h = grind (arith, nat_tests)

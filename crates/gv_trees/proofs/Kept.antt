@@ -8,12 +8,11 @@ use Rattle.gv_types.specs.declared.ids.Label.{Label}
 use Rattle.gv_types.specs.declared.event.Width.TheVariants.{Eight}
 use Rattle.gv_gpu.specs.Change.{ChangesOnly, Leaves}
 use Rattle.gv_gpu.specs.Device.{Device, IsEmpty}
-use Rattle.gv_gpu.specs.Part.{Apart, outside, is_named, is_frame_of, is_shadow_of, frames_part}
+use Rattle.gv_gpu.specs.Part.{Apart, outside, is_named, is_frame_of, is_shadow_of, frames_part, shadow_label}
 use Rattle.gv_gpu.proofs.Changes.{leaves}
 use Rattle.gv_gpu.proofs.Seen.{label-same, words-same}
 use Rattle.gv_guest.specs.Placed.{Placed, Hosts, memory_in}
 use Rattle.gv_guest.specs.declared.memory.Memory.{Memory}
-use Rattle.gv_shape.specs.Shadow.{shadow_label}
 use Rattle.gv_shape.specs.Shadows.{KeepsPages}
 use Rattle.gv_sppgtt.specs.Grown.{count_of}
 use Rattle.gv_sppgtt.specs.State.{shadow_part, own_in, pages_of}

@@ -5,10 +5,9 @@ use Rattle.gv_cmd.specs.Table.{kind_of}
 use Rattle.gv_cmd.specs.declared.kind.Kind.{Kind}
 use Rattle.gv_cmd.specs.declared.kind.Kind.TheVariants.{SemaphoreWait}
 use Rattle.gv_gpu.specs.Device.{Device, counted}
-use Rattle.gv_gpu.specs.Part.{Part, outside, step_part, is_frame_of}
+use Rattle.gv_gpu.specs.Part.{Part, outside, step_part, is_frame_of, shadow_label}
 use Rattle.gv_gpu.specs.Step.{Stepping, operations, settled}
 use Rattle.gv_place.specs.Place.{KeepsShadow, Unchanged}
-use Rattle.gv_shape.specs.Shadow.{shadow_label}
 use Rattle.gv_types.specs.declared.ids.Label.{Label}
 
 -- ---- a wait

@@ -15,7 +15,7 @@ use Rattle.gv_entry.specs.SameTables.{has, SameTables}
 use Rattle.gv_entry.proofs.SameTables.{tables_decide, same_tables_chain}
 use Rattle.gv_entry.specs.Tables.{is_guarded}
 use Rattle.gv_gpu.specs.Device.{Device}
-use Rattle.gv_gpu.specs.Part.{Part, Apart, outside, inside, is_frame_of, is_shadow_of, frames_part}
+use Rattle.gv_gpu.specs.Part.{Part, Apart, outside, inside, is_frame_of, is_shadow_of, frames_part, shadow_label}
 use Rattle.gv_gpu.proofs.Parts.{inside-kept}
 use Rattle.gv_gpu.proofs.Seen.{label-same, words-same}
 use Rattle.gv_irq.specs.Irq.{Interrupts, raised, interrupt_bit}
@@ -28,7 +28,6 @@ use Rattle.gv_private.specs.Turn.{tail_written, without_front}
 use Rattle.gv_private.proofs.Granted.{page-free, tables-same, frame_written-tables}
 use Rattle.gv_private.proofs.Keeps.{KeptByEvents, events-keep, and_then-keeps}
 use Rattle.gv_sggtt.specs.Mirror.{NamesFrame}
-use Rattle.gv_shape.specs.Shadow.{shadow_label}
 use Rattle.gv_shape.specs.Shadows.{Shadows, KeepsPages}
 use Rattle.gv_shape.proofs.Shadows.{shadows_keep}
 use Rattle.gv_turn.specs.Keeping.{KeepsWork}

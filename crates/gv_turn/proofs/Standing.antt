@@ -3,7 +3,7 @@ use Rattle.std.proofs.Common.{◌≡◌, Bool, true, false, ◌||◌, refl, sym,
 use Rattle.std.proofs.lemmas.Bool.{eq-eqb}
 use Rattle.gv_entry.specs.Ranges.{owns_page}
 use Rattle.gv_gpu.specs.Change.{Leaves}
-use Rattle.gv_gpu.specs.Part.{Part, is_in_windows, standing_part}
+use Rattle.gv_gpu.specs.Part.{Part, is_in_windows, standing_part, shadow_label}
 use Rattle.gv_gpu.proofs.Seen.{label-same, words-same, global-same, general-same, loaded-same}
 use Rattle.gv_guest.proofs.Kept.{stands-kept, memory-kept}
 use Rattle.gv_place.proofs.Kept.{part-keeps, stands-kept as place-kept}
@@ -11,7 +11,6 @@ use Rattle.gv_place.specs.Place.{KeepsShadow}
 use Rattle.gv_private.specs.Grants.{page_grant}
 use Rattle.gv_private.proofs.Granted.{tables-same}
 use Rattle.gv_sggtt.specs.Mirror.{NamesFrame}
-use Rattle.gv_shape.specs.Shadow.{shadow_label}
 use Rattle.gv_shape.specs.Shadows.{KeepsPages}
 use Rattle.gv_shape.proofs.Shadows.{shadows_keep}
 use Rattle.gv_turn.specs.Laws.{PartKeepsWork}

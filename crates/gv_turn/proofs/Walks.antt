@@ -10,9 +10,10 @@ use Rattle.gv_entry.specs.declared.process.Process.TheVariants.{Absent, Table, L
 use Rattle.gv_gpu.specs.Device.{Device, Loaded}
 use Rattle.gv_gpu.specs.Physical.{live_page, page_of, entry_in, third_table, second_table, first_table, leaf, is_anothers, page_strays, walk_strays}
 use Rattle.gv_guest.specs.Placed.{Placed, Hosts}
-use Rattle.gv_shape.specs.Shadow.{Pages, shadow_label, split_level, has_leaves, table_word, split_word, Names, wanted}
+use Rattle.gv_shape.specs.Shadow.{Pages, split_level, has_leaves, table_word, split_word, Names, wanted}
 use Rattle.gv_shape.specs.Shadows.{Shadows}
 use Rattle.gv_shape.proofs.Walk.{Leads, walk-leads}
+use Rattle.gv_gpu.specs.Part.{shadow_label}
 
 -- ---- physical entries
 

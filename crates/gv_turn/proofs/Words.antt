@@ -12,8 +12,9 @@ use Rattle.gv_gpu.specs.Physical.{word_in, word_stored, is_shadow}
 use Rattle.gv_guest.specs.Placed.{Placed, Hosts, memory_in}
 use Rattle.gv_private.specs.Grants.{frame_read, frame_written}
 use Rattle.gv_private.specs.Space.{word_at}
-use Rattle.gv_shape.specs.Shadow.{Pages, shadow_label}
+use Rattle.gv_shape.specs.Shadow.{Pages}
 use Rattle.gv_shape.specs.Shadows.{Shadows, KeepsPages, host_page}
+use Rattle.gv_gpu.specs.Part.{shadow_label}
 
 -- the word of a granted frame that an address lies in; without a grant 0
 abbrev pub frame_word : Memory → Option ℕ → ℕ → ℕ

@@ -11,9 +11,9 @@ use Rattle.gv_element.proofs.Away.{stopped-rests, stopped-unloads}
 use Rattle.gv_element.proofs.Going.{away-rests}
 use Rattle.gv_gpu.specs.Context.{stopped}
 use Rattle.gv_gpu.specs.Device.{Device, Loaded, with_loaded}
-use Rattle.gv_gpu.specs.Part.{Part, outside, first_of_window, is_named, is_shadow_of, window_part}
+use Rattle.gv_gpu.specs.Part.{Part, outside, first_of_window, is_named, is_shadow_of, window_part, shadow_label}
 use Rattle.gv_gtt.specs.Gtt.{gtt_part, number_of}
-use Rattle.gv_sctx.specs.Context.{HasImage, shadow_label}
+use Rattle.gv_sctx.specs.Context.{HasImage}
 use Rattle.gv_sctx.proofs.Dwords.{fields_in}
 use Rattle.gv_sctx.proofs.Saving.{stopped-is, with_words}
 use Rattle.gv_sring.specs.Window.{WindowIsAbsent, page_at}

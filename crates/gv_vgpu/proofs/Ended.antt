@@ -16,7 +16,7 @@ use Rattle.gv_entry.specs.Ranges.{InParts, owns_page}
 use Rattle.gv_entry.specs.SameTables.{has}
 use Rattle.gv_gpu.specs.Change.{Leaves}
 use Rattle.gv_gpu.specs.Device.{Device, with_loaded}
-use Rattle.gv_gpu.specs.Part.{Part, first_of_window, guest_part, inside, is_in_window, is_named, is_page_of, is_shadow_of, outside, window_part}
+use Rattle.gv_gpu.specs.Part.{Part, first_of_window, guest_part, inside, is_in_window, is_named, is_page_of, is_shadow_of, outside, window_part, shadow_label}
 use Rattle.gv_gpu.proofs.Guests.{window-within}
 use Rattle.gv_gpu.proofs.Parts.{outside-widen}
 use Rattle.gv_gtt.specs.Gtt.{HasRoomFor, frames_of, gtt_part, nodes_in, number_of, over, own_pages, ranges_of, roots_in}
@@ -27,7 +27,6 @@ use Rattle.gv_gtt.proofs.Standing.{translated_stays, translation_stays}
 use Rattle.gv_mmio.specs.Mmio.{behind, guest_of, ports_at, ranges_of as mmio_ranges}
 use Rattle.gv_mmio.specs.Port.{writes_of}
 use Rattle.gv_private.specs.Device.{Engine as PrivateEngine, new_device, with_element}
-use Rattle.gv_sctx.specs.Context.{shadow_label}
 use Rattle.gv_sring.specs.Window.{WindowIsAbsent}
 use Rattle.gv_sring.proofs.Slots.{in-window}
 use Rattle.gv_turn.specs.Owned.{OwnsLeft}

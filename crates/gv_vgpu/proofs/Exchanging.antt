@@ -10,7 +10,7 @@ use Rattle.gv_entry.specs.Ranges.{InParts}
 use Rattle.gv_entry.specs.SameTables.{has}
 use Rattle.gv_gpu.specs.Change.{Leaves}
 use Rattle.gv_gpu.specs.Device.{Device, Loaded}
-use Rattle.gv_gpu.specs.Part.{Apart, Part, Within, context_part, engine_part, first_of_window, guest_part, is_named, is_page_of, is_shadow_of, outside}
+use Rattle.gv_gpu.specs.Part.{Apart, Part, Within, context_part, engine_part, first_of_window, guest_part, is_named, is_page_of, is_shadow_of, outside, shadow_label}
 use Rattle.gv_gpu.proofs.Changes.{leaves-outside}
 use Rattle.gv_gpu.proofs.Parts.{outside-widen}
 use Rattle.gv_gpu.proofs.Seen.{general-others, global-others, loaded-others}
@@ -20,7 +20,6 @@ use Rattle.gv_gtt.proofs.Others.{part-covers}
 use Rattle.gv_gtt.proofs.Standing.{translated_stays, translation_stays}
 use Rattle.gv_mmio.specs.Mmio.{behind, guest_of, ports_at, ranges_of as mmio_ranges}
 use Rattle.gv_private.specs.Device.{PrivateDevice, new_device, reset_engine}
-use Rattle.gv_sctx.specs.Context.{shadow_label}
 use Rattle.gv_sppgtt.specs.State.{own_in}
 use Rattle.gv_sring.specs.Window.{WindowIsAbsent, page_at}
 use Rattle.gv_turn.specs.Owned.{OwnsLeft}

@@ -21,7 +21,7 @@ use Rattle.gv_fetch.specs.Items.{Items}
 use Rattle.gv_fetch.specs.Left.{begun}
 use Rattle.gv_gpu.specs.Change.{Leaves}
 use Rattle.gv_gpu.specs.Device.{Device, counted, with_faults}
-use Rattle.gv_gpu.specs.Part.{Apart, Part, Within, access_part, first_of_window, guest_part, is_frame_of, is_in_window, is_named, is_shadow_of, outside}
+use Rattle.gv_gpu.specs.Part.{Apart, Part, Within, access_part, first_of_window, guest_part, is_frame_of, is_in_window, is_named, is_shadow_of, outside, shadow_label}
 use Rattle.gv_gpu.proofs.Parts.{inside-kept, outside-widen}
 use Rattle.gv_gpu.proofs.Seen.{global-same}
 use Rattle.gv_gtt.specs.Gtt.{HasRoomFor, frames_of, gtt_part, memory_of, nodes_in, number_of, ranges_of, roots_in}
@@ -33,7 +33,6 @@ use Rattle.gv_mmio.specs.Mmio.{ports_at}
 use Rattle.gv_private.specs.Device.{PrivateDevice, with_element}
 use Rattle.gv_private.specs.Load.{fetched_into, global_space, work_of}
 use Rattle.gv_scan.specs.Scan.{Scanned}
-use Rattle.gv_sctx.specs.Context.{shadow_label}
 use Rattle.gv_sppgtt.specs.State.{own_in}
 use Rattle.gv_sppgtt.proofs.OwnPages.{own-page}
 use Rattle.gv_sring.specs.Window.{Shows, page_at}

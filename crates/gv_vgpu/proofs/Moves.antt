@@ -13,7 +13,7 @@ use Rattle.gv_entry.specs.Ranges.{InParts}
 use Rattle.gv_entry.specs.SameTables.{has}
 use Rattle.gv_gpu.specs.Change.{ChangesOnly}
 use Rattle.gv_gpu.specs.Device.{Device}
-use Rattle.gv_gpu.specs.Part.{first_of_window, frames_part, is_frame_of, is_shadow_of}
+use Rattle.gv_gpu.specs.Part.{first_of_window, frames_part, is_frame_of, is_shadow_of, shadow_label}
 use Rattle.gv_gtt.specs.Changes.{Changes}
 use Rattle.gv_gtt.specs.Gtt.{frames_of, gtt_part, nodes_in, number_of, over, ranges_of, roots_in}
 use Rattle.gv_gtt.specs.Standing.{Translates}
@@ -23,7 +23,6 @@ use Rattle.gv_mmio.specs.Mmio.{behind, guest_of, ports_at, ranges_of as mmio_ran
 use Rattle.gv_private.specs.Device.{PrivateDevice, new_device, reset_engine}
 use Rattle.gv_private.specs.Grants.{is_granted, move_answer}
 use Rattle.gv_private.specs.Inputs.{answer}
-use Rattle.gv_sctx.specs.Context.{shadow_label}
 use Rattle.gv_sppgtt.specs.Grown.{count_of}
 use Rattle.gv_sppgtt.proofs.OwnPages.{own-same}
 use Rattle.gv_sring.specs.Window.{Window, WindowIsAbsent, page_at}

@@ -9,9 +9,9 @@ use Rattle.gv_element.specs.Works.{Held, Works, WorksWith, context_now, left_of}
 use Rattle.gv_element.proofs.Away.{stopped-unloads, stopped-works}
 use Rattle.gv_gpu.specs.Context.{stopped, stopped_with}
 use Rattle.gv_gpu.specs.Device.{Device, Loaded, with_loaded}
-use Rattle.gv_gpu.specs.Part.{context_part, engine_part, is_shadow_of, outside}
+use Rattle.gv_gpu.specs.Part.{context_part, engine_part, is_shadow_of, outside, shadow_label}
 use Rattle.gv_gtt.specs.Gtt.{number_of}
-use Rattle.gv_sctx.specs.Context.{HasImage, shadow_label}
+use Rattle.gv_sctx.specs.Context.{HasImage}
 use Rattle.gv_sctx.proofs.Dwords.{fields_in}
 use Rattle.gv_sctx.proofs.Saving.{stopped-is, with_words}
 use Rattle.gv_sring.specs.Window.{page_at}

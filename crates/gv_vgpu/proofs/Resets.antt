@@ -11,12 +11,11 @@ use Rattle.gv_element.proofs.Beside.{others-leave-work}
 use Rattle.gv_entry.specs.Ranges.{InParts, owns_page}
 use Rattle.gv_gpu.specs.Change.{Leaves}
 use Rattle.gv_gpu.specs.Device.{Device}
-use Rattle.gv_gpu.specs.Part.{Part, Within, inside, outside, guest_part, is_in_window, is_named, is_shadow_of, first_of_window}
+use Rattle.gv_gpu.specs.Part.{Part, Within, inside, outside, guest_part, is_in_window, is_named, is_shadow_of, first_of_window, shadow_label}
 use Rattle.gv_gpu.proofs.Guests.{window-within}
 use Rattle.gv_gpu.proofs.Parts.{outside-widen}
 use Rattle.gv_gtt.specs.Gtt.{frames_of, gtt_part, nodes_in, number_of, own_pages, ranges_of, roots_in, HasRoomFor}
 use Rattle.gv_sppgtt.specs.State.{own_in}
-use Rattle.gv_sctx.specs.Context.{shadow_label}
 use Rattle.gv_sring.specs.Window.{WindowIsAbsent}
 use Rattle.gv_sring.proofs.Slots.{in-window}
 use Rattle.gv_entry.specs.SameTables.{has}

@@ -9,7 +9,7 @@ use Rattle.gv_element.proofs.Going.{goes-on, moves-short, moves-small}
 use Rattle.gv_element.proofs.Staying.{work-stays}
 use Rattle.gv_entry.specs.SameTables.{SameTables}
 use Rattle.gv_gpu.specs.Device.{Device, Loaded}
-use Rattle.gv_gpu.specs.Part.{first_of_window, guest_part, step_part}
+use Rattle.gv_gpu.specs.Part.{first_of_window, guest_part, step_part, shadow_label}
 use Rattle.gv_gpu.proofs.Guests.{step-within}
 use Rattle.gv_gpu.proofs.Parts.{outside-widen}
 use Rattle.gv_gpu.proofs.Seen.{general-others, loaded-others}
@@ -23,7 +23,7 @@ use Rattle.gv_place.specs.Seen.{IsShort}
 use Rattle.gv_private.specs.Device.{Engine as PrivateEngine, PrivateDevice}
 use Rattle.gv_private.specs.Status.{command_raised}
 use Rattle.gv_private.specs.Turn.{JournalEntry as PrivateEntry, turned}
-use Rattle.gv_sctx.specs.Context.{FitsDwords, shadow_label}
+use Rattle.gv_sctx.specs.Context.{FitsDwords}
 use Rattle.gv_sring.specs.Window.{Shows, Window, page_at}
 use Rattle.gv_turn.specs.Owned.{OwnsLeft}
 use Rattle.gv_turn.specs.Work.{own_entry}

@@ -4,11 +4,10 @@ use Rattle.gv_types.specs.Maps.{put}
 use Rattle.gv_element.specs.Works.{Held, Rests}
 use Rattle.gv_gpu.specs.Context.{stopped}
 use Rattle.gv_gpu.specs.Device.{Device}
-use Rattle.gv_gpu.specs.Part.{Part, guest_part, outside, is_in_window, is_named, is_shadow_of, window_part}
+use Rattle.gv_gpu.specs.Part.{Part, guest_part, outside, is_in_window, is_named, is_shadow_of, window_part, shadow_label}
 use Rattle.gv_gtt.specs.Gtt.{gtt_part, memory_of, number_of, ranges_of}
 use Rattle.gv_gtt.specs.Standing.{Translates}
 use Rattle.gv_private.specs.Registers.{is_named as named_at}
-use Rattle.gv_sctx.specs.Context.{shadow_label}
 use Rattle.gv_sring.specs.Window.{WindowIsAbsent, page_at}
 use Rattle.gv_vgpu.specs.Changes.{LiveMoves, held_on, own_live}
 use Rattle.gv_vgpu.specs.Vgpu.{element_in, engine_at}

@@ -12,7 +12,7 @@ ghost use Rattle.gv_vgpu.specs.Loading.{NotFetched, image_found};
 ghost use Rattle.gv_vgpu.specs.Seen.{Seen, seen_in, seen-below, space_seen};
 
 use crate::load::Refusal;
-use gv_ctx::{Descriptor, Image};
+use gv_ctx::{Descriptor, Image, PAGE_DWORDS};
 use gv_gpu::Gpu;
 use gv_gtt::Gtt;
 use gv_scan::{Program, Reader, ScanFault, scan};
@@ -53,12 +53,12 @@ impl<'a, G: Gpu> Reader for GlobalReader<'a, G> {
 }
 
 // The dwords of a context's image that are read. Those behind them are left 0.
-fn image_page<G: Gpu>(gtt: &Gtt, gpu: &G, page: u32) -> [u32; 1024]
+fn image_page<G: Gpu>(gtt: &Gtt, gpu: &G, page: u32) -> [u32; PAGE_DWORDS]
     requires translates { Translates (G.state gpu.now) gtt.now }
     requires below { page + 1 < 2 ^ 20 }
     ensures { (p : PrivateDevice) (k : ℕ) → k < 0x34 → slice_index result k ≡ (global_space (over p (G.state gpu.now) gtt.now)).word ((page + 1) * 4096 + 4 * k) }
 {
-    let mut dwords = [0; 1024];
+    let mut dwords = [0; PAGE_DWORDS];
     for n in 0..IMAGE_DWORDS {
         dwords[n] = gtt.read_dword(gpu, (u64::from(page) + 1) * PAGE_BYTES + 4 * n as u64);
     }

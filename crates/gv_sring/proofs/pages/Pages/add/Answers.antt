@@ -1,7 +1,6 @@
 use Rattle.std.proofs.Common.{◌≡◌, ℕ, ◌+◌, ◌*◌, ◌<◌, List, ◌∷◌, ◌++◌, [], length, ap, sym, subst, ◌∙◌}
 use Rattle.gv_gpu.specs.Device.{Device, added, with_global}
-use Rattle.gv_gpu.specs.Part.{outside, window_part}
-use Rattle.gv_sctx.specs.Context.{shadow_label}
+use Rattle.gv_gpu.specs.Part.{outside, window_part, shadow_label}
 use Rattle.gv_sring.specs.Packing.{packed_into, words_in}
 use Rattle.gv_sring.specs.Window.{Window, Shows, Grows, first_of, slot_of, flags_of, most_pages}
 use Rattle.gv_sring.proofs.Windows.{with_page, one_more, page-shows, page-grows, page-outside}
