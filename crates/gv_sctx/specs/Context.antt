@@ -1,5 +1,5 @@
 -- A context and its image: the image is reached through the entry behind the descriptor's page.
-use Rattle.std.specs.Prelude.{ℕ, ◌+◌, ◌*◌, ◌/◌, ◌^◌, ◌<◌, ◌≡◌, true, List, length, slice_index, None, Some}
+use Rattle.std.specs.Prelude.{ℕ, ◌+◌, ◌*◌, ◌/◌, ◌^◌, ◌<◌, ◌≡◌, List, length, slice_index, None, Some}
 use Rattle.gv_ctx.specs.Descriptor.{descriptor_of}
 use Rattle.gv_ctx.specs.Saved.{fields_of}
 use Rattle.gv_ctx.specs.declared.saved.Saved.{Saved}
