@@ -19,6 +19,7 @@ use Rattle.gv_mediator.specs.Rota.{is_guest, owners_in, owns}
 use Rattle.gv_mediator.specs.Tied.{IsAt, Ties, devices_in}
 use Rattle.gv_vgpu.proofs.Others.{device_stands, device_stays}
 use Rattle.gv_vgpu.proofs.Small.{devices_are_small, windows_are_small}
+use Rattle.gv_mediator.proofs.Copies.{AllCome, all-come}
 use Rattle.gv_mediator.proofs.OneGuest.{Changed, OwnersChange, device-there, devices-set, loaded-same, ties-after}
 use Rattle.gv_mediator.proofs.Owning.{below-four, owners-disjoint, owns-it, same-some}
 
@@ -114,6 +115,9 @@ module _ (d e : Device) (before after : ℕ → Option ℕ) (engines : ℕ → B
       ∙ ap (set (devices_in d before guests) g) (sym was)
       ∙ set-get_or (devices_in d before guests) g (new_device 0 0 no_ranges)
 
+  pub copies-exchanged : AllCome d e guests (set guests g new)
+  copies-exchanged = all-come d e before after engines guests g old new here ties [] changed owners idle exchanges.copies
+
 pub ran-exchanged : (engines before after : ℕ → Bool) (d e : Device) (old new : Vgpu) → Exchanges engines before after d e old new → Ran d e []
 ran-exchanged engines before after d e old new exchanges = record {
   journal = ap (λ (x : Device). x.journal) exchanges.outside ∙ sym (append-nil d.journal);
@@ -155,6 +159,9 @@ module _ (d e : Device) (owners : ℕ → Option ℕ) (guests : List Vgpu) (g en
 
   pub ties-away : Ties e between (set guests g new)
   ties-away = ties-exchanged d e owners between (owns owners g) guests g old new here ties away owners-away idle-between
+
+  pub copies-away : AllCome d e guests (set guests g new)
+  copies-away = copies-exchanged d e owners between (owns owners g) guests g old new here ties away owners-away idle-between
 
   pub devices-away : devices_in e between (set guests g new) ≡ devices_in d owners guests
   devices-away = devices-exchanged d e owners between (owns owners g) guests g old new here ties away owners-away idle-between
@@ -200,6 +207,9 @@ module _ (d e : Device) (owners : ℕ → Option ℕ) (guests : List Vgpu) (n en
 
   pub ties-brought : Ties e afterwards guests
   ties-brought = subst (Ties e afterwards) same_guests (ties-exchanged d e owners afterwards (owns afterwards n) guests n v v here ties brought owners-brought idle-afterwards)
+
+  pub copies-brought : AllCome d e guests guests
+  copies-brought = subst (AllCome d e guests) same_guests (copies-exchanged d e owners afterwards (owns afterwards n) guests n v v here ties brought owners-brought idle-afterwards)
 
   pub devices-brought : devices_in e afterwards guests ≡ devices_in d owners guests
   devices-brought =

@@ -1,6 +1,7 @@
 mod Room
 mod Owning
 mod OneGuest
+mod Copies
 mod Receiving
 mod Promised
 mod Lacking

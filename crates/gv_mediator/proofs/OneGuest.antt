@@ -20,7 +20,7 @@ use Rattle.gv_machine.specs.Machine.{no_ranges}
 use Rattle.gv_private.specs.Device.{PrivateDevice, new_device}
 use Rattle.gv_private.specs.Turn.{JournalEntry}
 use Rattle.gv_sggtt.specs.Mirror.{IsAbsent}
-use Rattle.gv_vgpu.specs.Changes.{Keeps, LiveMoves, journalled, own_live}
+use Rattle.gv_vgpu.specs.Changes.{LiveMoves, MayLoad, journalled, own_live}
 use Rattle.gv_vgpu.specs.Laws.{DeviceStands, DeviceStays, DevicesAreSmall, WindowsAreSmall}
 use Rattle.gv_vgpu.specs.Vgpu.{private_of}
 use Rattle.gv_vgpu.specs.Standing.{Holds, IsAway}
@@ -48,6 +48,26 @@ shown false l x is = is
 pub own_page : (g : ℕ) (l : Label) → is_page_of g (Some l) ≡ true → l.guest.0 ≡ g
 own_page g l is = grind (arith, nat_tests)
 
+-- there is one device at each place
+pub one-there : (guests : List Vgpu) (k : ℕ) (v w : Vgpu) → IsAt guests k v → IsAt guests k w → v ≡ w
+one-there guests k v w at also = sym at.1 ∙ get_or_default guests k v w at.0 ∙ also.1
+
+-- What holds of the guest's device, and of each other one, holds at each place.
+pub at-each : (R : Vgpu → Vgpu → Type 0) (guests : List Vgpu) (g : ℕ) (old new : Vgpu) → IsAt guests g old → R old new → ((k : ℕ) (x : Vgpu) → IsAt guests k x → k ≢ g → R x x)
+    → (k : ℕ) (v w : Vgpu) → IsAt guests k v → IsAt (set guests g new) k w → R v w
+at-each R guests g old new here own rest k v w before now = ⊎_elim
+    (λ is.
+    let first : old ≡ v = one-there guests g old v here (subst (λ n. IsAt guests n v) is before) in
+    let second : new ≡ w = one-there (set guests g new) g new w placed (subst (λ n. IsAt (set guests g new) n w) is now) in
+    subst (λ x. R x w) first (subst (λ y. R old y) second own))
+    (λ differ.
+    let was : IsAt guests k w = (before.0, sym (get_or-set_other guests g k new w differ) ∙ now.1) in
+    subst (λ x. R x w) (one-there guests k w v was before) (rest k w was differ))
+    (cases_eq k g)
+  where
+    placed : IsAt (set guests g new) g new
+    placed = (subst (λ n. g < n) (sym (length-set guests g new)) here.0, get_or-set_same guests g new new here.0)
+
 -- What a call leaves of one guest's device. The guest owns these engines then, and the call changed these.
 pub record Changed (engines after : ℕ → Bool) (d e : Device) (old new : Vgpu) : Type 0 where
   pub holds : Holds e new after
@@ -57,7 +77,7 @@ pub record Changed (engines after : ℕ → Bool) (d e : Device) (old new : Vgpu
   pub outside : outside (guest_part (number_of old.gtt) (ranges_of old.gtt) engines) e ≡ outside (guest_part (number_of old.gtt) (ranges_of old.gtt) engines) d
   pub live : LiveMoves d e (own_live old) (own_live new)
 
-pub changed-kept : (here : ℕ → Bool) (d e : Device) (old new : Vgpu) → Keeps here d e old new → Changed here here d e old new
+pub changed-kept : (here : ℕ → Bool) (d e : Device) (old new : Vgpu) → MayLoad here d e old new → Changed here here d e old new
 changed-kept here d e old new keeps = record { holds = keeps.holds; number = keeps.number; frames = keeps.frames; ranges = keeps.ranges; outside = keeps.outside; live = keeps.live }
 
 -- Who owns engines before and after a call of guest g. The engines that it changes are no other guest's, and each other
@@ -118,7 +138,7 @@ module _ (stands : DeviceStands) (stays : DeviceStays) (small : DevicesAreSmall)
   parts k x within = (ties.holds k x within).parts
 
   -- their parts of the device are as they were
-  left : (k : ℕ) (x : Vgpu) → IsAt guests k x → k ≢ g → inside (standing_part (number_of x.gtt) (ranges_of x.gtt) (owns before k)) e ≡ inside (standing_part (number_of x.gtt) (ranges_of x.gtt) (owns before k)) d
+  pub left : (k : ℕ) (x : Vgpu) → IsAt guests k x → k ≢ g → inside (standing_part (number_of x.gtt) (ranges_of x.gtt) (owns before k)) e ≡ inside (standing_part (number_of x.gtt) (ranges_of x.gtt) (owns before k)) d
   left k x within differ =
       inside-kept (guest_part (number_of old.gtt) (ranges_of old.gtt) engines) (standing_part (number_of x.gtt) (ranges_of x.gtt) (owns before k)) (journalled d ran) e
       (apart-standing (number_of old.gtt) (number_of x.gtt) (ranges_of old.gtt) (ranges_of x.gtt) (others k x within differ) (parts g old here) (parts k x within) (apart k x within differ) engines (owns before k) (owners.free k differ))
@@ -278,7 +298,7 @@ module _ (stands : DeviceStands) (stays : DeviceStays) (small : DevicesAreSmall)
 
 -- ---- a call that keeps owners
 
-module _ (d e : Device) (owners : ℕ → Option ℕ) (guests : List Vgpu) (g : ℕ) (old new : Vgpu) (ties : Ties d owners guests) (ran : List JournalEntry) (keeps : Keeps (owns owners g) (journalled d ran) e old new) where
+module _ (d e : Device) (owners : ℕ → Option ℕ) (guests : List Vgpu) (g : ℕ) (old new : Vgpu) (ties : Ties d owners guests) (ran : List JournalEntry) (keeps : MayLoad (owns owners g) (journalled d ran) e old new) where
   pub owners-stay : OwnersChange (owns owners g) owners owners g (length guests)
   owners-stay = record { free = λ k differ. owners-disjoint owners g k (λ is. differ (sym is)); same = λ k differ. refl; there = ties.there }
 

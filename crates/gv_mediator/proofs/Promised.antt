@@ -1,6 +1,6 @@
 -- What a reply promises of the guests' tables, from what the call of one guest promises of its own.
 use Rattle.std.proofs.Common.{◌≡◌, ℕ, ◌<◌, Bool, Some, List, Result, Ok, Err, IfOk, OnOk, Option, sym, ap, ◌∙◌, subst}
-use Rattle.std.proofs.lemmas.List.{get_or_default, get_or-set_same, length-set}
+use Rattle.std.proofs.lemmas.List.{get_or-set_same, length-set}
 use Rattle.std.specs.Vec.{with_item}
 use Rattle.gv_types.specs.declared.event.Event.{Event}
 use Rattle.gv_types.specs.declared.event.Event.TheVariants.{Read, Write, Turn, Switch, Move, Reset}
@@ -19,7 +19,7 @@ use Rattle.gv_mediator.specs.Rota.{owners_in, owns}
 use Rattle.gv_mediator.specs.Tables.{AllFollow, EventMoves, EventPokes}
 use Rattle.gv_mediator.specs.Tied.{IsAt, Tied, Ties, machine_of}
 use Rattle.gv_mediator.specs.declared.mediator.Mediator.{Mediator}
-use Rattle.gv_mediator.proofs.OneGuest.{device-there}
+use Rattle.gv_mediator.proofs.OneGuest.{device-there, one-there}
 use Rattle.gv_mediator.proofs.Owning.{same-some}
 
 -- ---- tables
@@ -35,10 +35,6 @@ follow-ok (Ok a) d m stopped tied = all-follow d m tied
 follow-ok (Err e) d m stopped tied = tt
 
 -- ---- one guest's device among all
-
--- there is one at each place
-one-there : (guests : List Vgpu) (k : ℕ) (v w : Vgpu) → IsAt guests k v → IsAt guests k w → v ≡ w
-one-there guests k v w at also = sym at.1 ∙ get_or_default guests k v w at.0 ∙ also.1
 
 module _ (d e : Device) (m : Mediator) (k : ℕ) (old new : Vgpu) (stopped : Bool) (here : IsAt m.guests.items k old) where
   abbrev after : Mediator

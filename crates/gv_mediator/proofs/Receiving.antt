@@ -28,6 +28,7 @@ use Rattle.gv_mediator.specs.Tied.{IsAt, Tied, Ties, devices_in, machine_of}
 use Rattle.gv_mediator.specs.declared.mediator.Mediator.{Mediator}
 use Rattle.gv_vgpu.proofs.Others.{device_stands, device_stays}
 use Rattle.gv_vgpu.proofs.Small.{devices_are_small, windows_are_small}
+use Rattle.gv_mediator.proofs.Copies.{AllStay, all-stay}
 use Rattle.gv_mediator.proofs.OneGuest.{Changed, OwnersChange, changed-kept, device-there, devices-set, idle-stays, owners-stay, ties-after}
 use Rattle.gv_mediator.proofs.Owning.{owner-of-engine, owns-it, same-some}
 use Rattle.gv_mediator.proofs.Room.{IsSmall, all-at, is-small, live-below, room-for}
@@ -156,6 +157,9 @@ module _ (d : Device) (m : Mediator) (tied : Tied d m) (one : Event) (k : ℕ) (
 
       pub tied-then : (stopped : Bool) → Tied e (record { guests = with_item m.guests k new; rota = m.rota; stopped = stopped })
       tied-then stopped = record { ties = ties-then; guests = tied.guests ∙ sym (length-set guests k new); engines = tied.engines }
+
+      pub copies-then : AllStay d e guests (set guests k new)
+      copies-then = all-stay d e (owners_in m.rota) (owners_in m.rota) (owns (owners_in m.rota) k) guests k old new here tied.ties ran changed owners idle replies.keeps.copies
 
       entries-same : map entry_of (answer (private_of d old (owns (owners_in m.rota) k)) one).ran ≡ entries_ran (event_done (machine_of d m) one).came
       entries-same = ap (λ (a : Answered). map entry_of a.ran) (sym answer-same) ∙ one-ran ∙ ap (λ (c : Course Machine Happened). entries_ran c.came) (sym is-received)

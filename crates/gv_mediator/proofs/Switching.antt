@@ -1,6 +1,6 @@
 -- A switch of an engine, and what comes of it for the machine.
 use Rattle.std.proofs.Common.{◌≡◌, ℕ, ◌<◌, Bool, true, false, Option, None, Some, List, length, set, take, ap, sym, ◌∙◌, subst, refl}
-use Rattle.std.proofs.lemmas.List.{length-map, length-set, set-get_or}
+use Rattle.std.proofs.lemmas.List.{get_or_default, length-map, length-set, set-get_or}
 use Rattle.std.specs.Vec.{with_item}
 use Rattle.gv_types.specs.Maps.{put}
 use Rattle.gv_types.specs.declared.ids.EngineId.{EngineId}
@@ -17,7 +17,9 @@ use Rattle.gv_vgpu.specs.declared.vgpu.Vgpu.{Vgpu}
 use Rattle.gv_mediator.specs.Rota.{is_guest, owners_in, owns}
 use Rattle.gv_mediator.specs.Tied.{IsAt, Tied, Ties, devices_in, machine_of}
 use Rattle.gv_mediator.specs.declared.mediator.Mediator.{Mediator}
-use Rattle.gv_mediator.proofs.Exchange.{devices-away, devices-brought, owners-given, put-same, ties-away, ties-brought, without-engine}
+use Rattle.gv_mediator.specs.Tables.{AllCopiesStay}
+use Rattle.gv_mediator.proofs.Copies.{come-then}
+use Rattle.gv_mediator.proofs.Exchange.{copies-away, copies-brought, devices-away, devices-brought, owners-given, put-same, ties-away, ties-brought, without-engine}
 use Rattle.gv_mediator.proofs.Owning.{owner-of-engine, owns-it}
 
 -- the works that were taken down are those on the engine
@@ -83,6 +85,12 @@ module _ (d : Device) (m : Mediator) (tied : Tied d m) (engine : EngineId) (smal
       pub next-between : next < rota.guests → next < length (set guests owner new)
       next-between there = subst (λ n. next < n) (sym (length-set guests owner new)) (next-there there)
 
+      -- each guest is there
+      between-there : (k : ℕ) (x : Vgpu) → IsAt guests k x → (y : Vgpu) × IsAt (set guests owner new) k y
+      between-there k x at =
+          let within : k < length (set guests owner new) = subst (λ n. k < n) (sym (length-set guests owner new)) at.0 in
+          (get_or (set guests owner new) k x, (within, get_or_default (set guests owner new) k (get_or (set guests owner new) k x) x within))
+
       -- ---- and brought
 
       module _ (v : Vgpu) (at : IsAt (set guests owner new) next v) (there : ℕ → Bool) (there_is : there ≡ owning (owns (owners_in rota) next) engine.0 false) where
@@ -109,6 +117,12 @@ module _ (d : Device) (m : Mediator) (tied : Tied d m) (engine : EngineId) (smal
             guests = ap (λ (r : Owners). r.guests) rota_given ∙ tied.guests ∙ sym (length-set guests owner new);
             engines = ap (λ (r : Owners). length r.owners) rota_given ∙ length-set m.rota.owners engine.0 next ∙ tied.engines;
           }
+
+          pub copies-switched : AllCopiesStay d f m (record m { guests = with_item m.guests owner new; rota = rota })
+          copies-switched =
+              come-then d e f guests (set guests owner new) (set guests owner new) between-there
+              (copies-away d e (owners_in m.rota) guests owner engine.0 old new here tied.ties mine own own_is away idle)
+              (copies-brought e f (put (owners_in m.rota) engine.0 None) (set guests owner new) next engine.0 v at ties-between free there there_owns brings)
 
           devices-switched : devices_in f (owners_in rota) (set guests owner new) ≡ devices_in d (owners_in m.rota) guests
           devices-switched =

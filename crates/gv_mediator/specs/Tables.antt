@@ -1,4 +1,4 @@
--- What a reply promises of the guests' own tables, frames and memory.
+-- What a reply promises of the guests' own tables, frames and memory, and of the copies of their elements.
 use Rattle.std.specs.Prelude.{ℕ, Option, ⊤}
 use Rattle.gv_types.specs.declared.event.Event.{Event}
 use Rattle.gv_types.specs.declared.event.Event.TheVariants.{Move, Write}
@@ -7,6 +7,7 @@ use Rattle.gv_types.specs.declared.reply.Reason.{Reason}
 use Rattle.gv_gpu.specs.Device.{Device}
 use Rattle.gv_machine.specs.Machine.{Machine, device_at}
 use Rattle.gv_vgpu.specs.Access.{FrameMoves, WritePokes}
+use Rattle.gv_vgpu.specs.Copies.{CopiesStay}
 use Rattle.gv_vgpu.specs.Followed.{FollowsTables}
 use Rattle.gv_vgpu.specs.declared.vgpu.Vgpu.{Vgpu}
 use Rattle.gv_mediator.specs.Tied.{IsAt, machine_of}
@@ -21,6 +22,11 @@ AllFollow d m = (g : ℕ) (v : Vgpu) → IsAt m.guests.items g v → FollowsTabl
 abbrev pub EventMoves : Device → Mediator → Mediator → Event → Answer → Type 0
 EventMoves e old new (Move guest frame) answer = (v w : Vgpu) → IsAt old.guests.items guest.0 v → IsAt new.guests.items guest.0 w → FrameMoves e v w frame answer
 EventMoves e old new one answer = ⊤
+
+-- Whatever a guest or an engine writes: an element that is at work before an event and after it is the same, and no word
+-- of the copies that it runs from changed.
+abbrev pub AllCopiesStay : Device → Device → Mediator → Mediator → Type 0
+AllCopiesStay d e old new = (g : ℕ) (v w : Vgpu) → IsAt old.guests.items g v → IsAt new.guests.items g w → CopiesStay d e v w
 
 -- A write of a guest's memory after which its live tables and split keys are as before pokes one word, and one more for
 -- each level at which the frame is a live table.

@@ -12,7 +12,7 @@ ghost use Rattle.gv_mediator.specs.Listed.{AnswersOnce, DeviceMayFault, DeviceMa
 ghost use Rattle.gv_vgpu.specs.Vgpu.{private_of};
 ghost use Rattle.gv_vgpu.specs.Owners.{is_here};
 ghost use Rattle.gv_vgpu.specs.Standing.{HasRoomToLoad, Holds};
-ghost use Rattle.gv_mediator.specs.Tables.{AllFollow, EventMoves, EventPokes};
+ghost use Rattle.gv_mediator.specs.Tables.{AllCopiesStay, AllFollow, EventMoves, EventPokes};
 ghost use Rattle.gv_mediator.specs.Tied.{Tied, machine_of};
 
 use crate::mediator::Mediator;
@@ -98,6 +98,7 @@ impl Mediator {
         ensures lacks { IsErrOf result Stop.OutOfMemory → EventMayLackMemory (G.state gpu.old) (machine_of (G.state gpu.old) self.old) event.now }
         ensures once { IfOk result (λ reply. AnswersOnce (G.state gpu.old) (G.state gpu.new) event.now reply.answer) }
         ensures moves { IfOk result (λ reply. EventMoves (G.state gpu.new) self.old self.new event.now reply.answer) }
+        ensures copies { OnOk result (AllCopiesStay (G.state gpu.old) (G.state gpu.new) self.old self.new) }
         ensures pokes { IfOk result (λ reply. EventPokes (G.state gpu.old) (G.state gpu.new) (machine_of (G.state gpu.old) self.old) (machine_of (G.state gpu.new) self.new) event.now reply.failsafe) }
     {
         let guest = self.receiver(event);
@@ -121,6 +122,7 @@ impl Mediator {
         ensures stays { KeepsOwner (machine_of (G.state gpu.old) self.old) event.now → G.state gpu.new ≡ G.state gpu.old }
         ensures once { IfOk result (λ reply. AnswersOnce (G.state gpu.old) (G.state gpu.new) event.now reply.answer) }
         ensures moves { IfOk result (λ reply. EventMoves (G.state gpu.new) self.old self.new event.now reply.answer) }
+        ensures copies { OnOk result (AllCopiesStay (G.state gpu.old) (G.state gpu.new) self.old self.new) }
         ensures pokes { IfOk result (λ reply. EventPokes (G.state gpu.old) (G.state gpu.new) (machine_of (G.state gpu.old) self.old) (machine_of (G.state gpu.new) self.new) event.now reply.failsafe) }
     {
         match event {
@@ -157,6 +159,7 @@ impl Mediator {
         ensures stays { KeepsOwner (machine_of (G.state gpu.old) self.old) event.now → G.state gpu.new ≡ G.state gpu.old }
         ensures once { IfOk result (λ reply. AnswersOnce (G.state gpu.old) (G.state gpu.new) event.now reply.answer) }
         ensures moves { IfOk result (λ reply. EventMoves (G.state gpu.new) self.old self.new event.now reply.answer) }
+        ensures copies { OnOk result (AllCopiesStay (G.state gpu.old) (G.state gpu.new) self.old self.new) }
         ensures pokes { IfOk result (λ reply. EventPokes (G.state gpu.old) (G.state gpu.new) (machine_of (G.state gpu.old) self.old) (machine_of (G.state gpu.new) self.new) event.now reply.failsafe) }
         ensures followed { OnOk result (AllFollow (G.state gpu.new) self.new) }
     {

@@ -5,6 +5,7 @@ ghost use Rattle.gv_machine.specs.Machine.{owner_after, owner_told, switch_cours
 ghost use Rattle.gv_sched.specs.Rota.{owner_of};
 ghost use Rattle.gv_vgpu.specs.Exchange.{owning};
 ghost use Rattle.gv_vgpu.specs.Owners.{is_here};
+ghost use Rattle.gv_mediator.specs.Tables.{AllCopiesStay};
 ghost use Rattle.gv_mediator.specs.Tied.{Tied, devices_in, machine_of};
 
 use crate::mediator::Mediator;
@@ -63,6 +64,7 @@ impl Mediator {
         ensures ran { Ran (G.state gpu.old) (G.state gpu.new) [] }
         ensures cause { OnErr result (counted (G.state gpu.old).faults ≤ (G.state gpu.new).faults) }
         ensures stays { owner_after (machine_of (G.state gpu.old) self.old) engine.0 ≡ owner_of self.old.rota engine.0 → G.state gpu.new ≡ G.state gpu.old }
+        ensures copies { OnOk result (AllCopiesStay (G.state gpu.old) (G.state gpu.new) self.old self.new) }
         ensures changes { OnErr result (owner_after (machine_of (G.state gpu.old) self.old) engine.0 ≢ owner_of self.old.rota engine.0) }
     {
         let works = works_on(&self.guests, engine);

@@ -22,6 +22,7 @@ use Rattle.gv_vgpu.specs.Vgpu.{engine_at, no_engine, private_of}
 use Rattle.gv_vgpu.specs.Standing.{Holds, HoldsBut, IsAway, Occupies, OccupiesOn, StandsOn}
 use Rattle.gv_vgpu.specs.declared.vgpu.Vgpu.{Vgpu}
 use Rattle.gv_vgpu.specs.declared.notice.Notice.{Notice}
+use Rattle.gv_vgpu.proofs.Copies.{comes-none, comes-then}
 use Rattle.gv_vgpu.proofs.Failing.{holds-occupies}
 use Rattle.gv_vgpu.proofs.Made.{makes-done}
 use Rattle.gv_vgpu.proofs.Registers.{moved-keeps, registers-moved}
@@ -58,6 +59,7 @@ module _
       ranges = keeps.ranges ∙ (λ i. ranges_of (gtt i));
       outside = subst (λ g. outside (guest_part (number_of g) (ranges_of g) here) e ≡ outside (guest_part (number_of g) (ranges_of g) here) d) gtt keeps.outside;
       live = subst (λ n. LiveMoves d e n (own_live last)) (own-same old new (λ k i. (engine-same k i).element) gtt) keeps.live;
+      copies = comes-then d d e old new last (comes-none d old new (λ k i. (engine-same k i).element)) keeps.copies;
     }
 
     pub makes-from : (e : Device) (last : Vgpu) (w : Written) (notice : Notice) → Makes here d e new last w notice → Makes here d e old last w notice

@@ -27,7 +27,7 @@ use Rattle.gv_gtt.proofs.Standing.{translated_stays, translation_stays}
 use Rattle.gv_mmio.specs.Mmio.{behind, guest_of, ports_at, ranges_of as mmio_ranges}
 use Rattle.gv_mmio.specs.Port.{writes_of}
 use Rattle.gv_private.specs.Device.{Engine as PrivateEngine, new_device, with_element}
-use Rattle.gv_sring.specs.Window.{WindowIsAbsent}
+use Rattle.gv_sring.specs.Window.{WindowIsAbsent, page_at}
 use Rattle.gv_sring.proofs.Slots.{in-window}
 use Rattle.gv_turn.specs.Owned.{OwnsLeft}
 use Rattle.gv_vgpu.specs.Changes.{LiveMoves, held_on, own_live, window_pages}
@@ -36,6 +36,8 @@ use Rattle.gv_vgpu.specs.Standing.{Holds, IsAway, StandsAtWork, StandsIdle, Stan
 use Rattle.gv_vgpu.specs.Turn.{EndOf}
 use Rattle.gv_vgpu.specs.declared.engine.Engine.{Engine}
 use Rattle.gv_vgpu.specs.declared.vgpu.Vgpu.{Vgpu}
+use Rattle.gv_vgpu.specs.Copies.{KeepsCopies, NoneComes}
+use Rattle.gv_vgpu.proofs.Copies.{words-kept}
 use Rattle.gv_vgpu.proofs.Engines.{each-engine}
 use Rattle.gv_vgpu.proofs.General.{other-number, put-by, put-other, put-own, same-number}
 use Rattle.gv_vgpu.proofs.Kept.{past-ranges}
@@ -310,6 +312,24 @@ module _ (before : Device) (old : Vgpu) (here : ℕ → Bool) (engine : ℕ) (x 
           engines = λ k. put-by (λ k. in-private before (engine_at old k) k) (λ k. in-private e (engine_at new k) k) engine (record (in-private before (engine_at old engine) engine) { element = None }) own-engine other-engine k i;
         })
 
+    -- ---- the copies of the others
+
+    -- no page of another's window goes
+    not-gone : (k : ℕ) (y : Held) → k ≢ engine → (engine_at old k).element ≡ Some y → HasNoPage (window_part number engine pages) y.window
+    not-gone k y differ at j within =
+        λ i. none-named pages (page_at y.window j) (λ n less hit. holds.beside engine k x y (λ same. differ (sym same)) is at n j less within hit) i && is_shadow_of number (Some (shadow_label y.window.guest))
+
+    copies-of : (k : ℕ) → k ≢ engine → (y : Held) → (engine_at old k).element ≡ Some y → KeepsCopies y.window before e
+    copies-of k differ y at =
+        each-engine old (λ k element. k ≢ engine → (y : Held) → element ≡ Some y → (engine_at old k).element ≡ Some y → KeepsCopies y.window before e)
+        (λ k below differ y is at.
+        let other : StandsAtWork before old k (here k) y = subst (λ o. StandsOn before old k (here k) o) is (holds.engines k below) in
+        λ j two within. words-kept off e (window_part number engine pages) (window_part number engine []) (page_at y.window j) (shadow_label y.window.guest) (other.works.runs.shows.label j within) (not-gone k y differ at j within) same)
+        (λ k differ y is at. absurd (none-some y is)) k differ y at at
+
+    comes : NoneComes before e old new
+    comes k y at = let there = element-before k y at in (there.1, copies-of k there.0 y there.1)
+
     -- ---- all of it
 
     pub end-of : EndOf here engine before e old new x x.tail
@@ -334,6 +354,7 @@ module _ (before : Device) (old : Vgpu) (here : ℕ → Bool) (engine : ℕ) (x 
         ranges = λ i. ranges_of (gtt i);
         outside = outside-same;
         live = lives;
+        copies = comes;
       };
       mmio = registers;
       tail_is = refl;

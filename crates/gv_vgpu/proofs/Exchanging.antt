@@ -24,10 +24,12 @@ use Rattle.gv_sppgtt.specs.State.{own_in}
 use Rattle.gv_sring.specs.Window.{WindowIsAbsent, page_at}
 use Rattle.gv_turn.specs.Owned.{OwnsLeft}
 use Rattle.gv_vgpu.specs.Changes.{own_live}
+use Rattle.gv_vgpu.specs.Copies.{KeepsCopies, NoneComes}
 use Rattle.gv_vgpu.specs.Exchange.{Exchanges}
 use Rattle.gv_vgpu.specs.Vgpu.{element_in, engine_at, engine_in, engines_of, general_in, private_of}
 use Rattle.gv_vgpu.specs.Standing.{Holds, IsAway, StandsAtWork, StandsOn}
 use Rattle.gv_vgpu.specs.declared.vgpu.Vgpu.{Vgpu}
+use Rattle.gv_vgpu.proofs.Copies.{comes-each, words-kept}
 use Rattle.gv_vgpu.proofs.Engines.{none-past}
 use Rattle.gv_vgpu.proofs.General.{not-equal, other-number, same-number}
 use Rattle.gv_vgpu.proofs.Same.{beside-same, own-same}
@@ -314,6 +316,29 @@ module _ (d e : Device) (old new : Vgpu) (before after : ℕ → Bool) (engine :
     spare = λ hit. refl;
   }
 
+  -- The image changes, and no copy: a page behind the image's two is no image of the exchange.
+  no-image : (k : ℕ) (y : Held) (j : ℕ) → (engine_at old k).element ≡ Some y → StandsAtWork d old k (before k) y → 2 ≤ j → j < length y.window.pages
+      → IsImage guest element (page_at y.window j) (Some (shadow_label y.window.guest)) → (b : Bool) → (k == engine) ≡ b → ⊥
+  no-image k y j at stands two less image true same =
+      let both : Some y ≡ Some image.element = sym at ∙ (λ i. (engine_at old (same-number k engine same i)).element) ∙ image.is in
+      let held : image.element ≡ y = cc in
+      let first : 1 ≡ j = stands.works.runs.shows.apart 1 j (omega arith) less (sym (image.page ∙ (λ i. page_at (held i).window 1))) in
+      absurd (omega arith)
+  no-image k y j at stands two less image false other =
+      let most : 2 ≤ length image.element.window.pages = (stands-own image.element image.is).works.window.two in
+      holds.beside engine k image.element y (λ same. other-number k engine other (sym same)) image.is at 1 j (omega arith) less (sym image.page)
+
+  copies-of : (k : ℕ) (y : Held) → (engine_at old k).element ≡ Some y → StandsAtWork d old k (before k) y → KeepsCopies y.window d e
+  copies-of k y at stands j two less =
+      words-kept d e part part (page_at y.window j) (shadow_label y.window.guest) (stands.works.runs.shows.label j less) (missed (part.page (page_at y.window j) (Some (shadow_label y.window.guest))) refl) goes.outside
+    where
+      missed : (b : Bool) → part.page (page_at y.window j) (Some (shadow_label y.window.guest)) ≡ b → b ≡ false
+      missed false hit = refl
+      missed true hit = absurd (no-image k y j at stands two less (part-page guest engine element (page_at y.window j) (Some (shadow_label y.window.guest)) hit) (k == engine) refl)
+
+  comes : NoneComes d e old new
+  comes = comes-each d e old new before holds elements (λ k y below at stands. copies-of k y at stands)
+
   pub exchanges : (with : ℕ → Bool) → with engine ≡ true → Exchanges with before after d e old new
   exchanges with own = record {
     holds = holds-then;
@@ -323,4 +348,5 @@ module _ (d e : Device) (old new : Vgpu) (before after : ℕ → Bool) (engine :
     ranges = λ i. ranges_of (gtt i);
     outside = outside-widen part part (guest_part guest (ranges_of old.gtt) with) d e (within with own) (within with own) goes.outside;
     live = λ enough. (λ i. goes.live i + own_live old) ∙ (λ i. d.live + sym (own-same old new elements gtt) i);
+    copies = comes;
   }

@@ -20,6 +20,7 @@ use Rattle.gv_vgpu.specs.Vgpu.{engine_at, private_of}
 use Rattle.gv_vgpu.specs.Standing.{Holds, Occupies, OccupiesOn, StandsOn}
 use Rattle.gv_vgpu.specs.declared.vgpu.Vgpu.{Vgpu}
 use Rattle.gv_vgpu.specs.declared.notice.Notice.{Notice}
+use Rattle.gv_vgpu.proofs.Copies.{comes-gone, none-at-work}
 use Rattle.gv_vgpu.proofs.Kept.{engine-same, idle-on, works-on}
 use Rattle.gv_vgpu.proofs.Same.{beside-same, moves-none, moves-then, moves-with-tables}
 
@@ -139,6 +140,7 @@ fails-then here d e f a b c m reason notice number ranges first second = record 
     ranges = second.keeps.ranges ∙ first.ranges;
     outside = outside-then here d e f a b first.number first.ranges first.outside second.keeps.outside;
     live = moves-then d e f (own_live a) (own_live b) (own_live c) first.live second.keeps.live;
+    copies = comes-gone d f a c (λ k. none-at-work f (number_of c.gtt) k (here k) (engine_at c k).element (λ i. ((sym second.written i).device.engines k).element));
   };
 }
   where

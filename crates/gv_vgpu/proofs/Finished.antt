@@ -24,6 +24,7 @@ use Rattle.gv_vgpu.specs.Standing.{Holds, IsAway, StandsOn}
 use Rattle.gv_vgpu.specs.Turn.{Completes, EndOf, front_tail_written}
 use Rattle.gv_vgpu.specs.declared.notice.Notice.{Notice}
 use Rattle.gv_vgpu.specs.declared.vgpu.Vgpu.{Vgpu}
+use Rattle.gv_vgpu.proofs.Copies.{comes-none, none-at-work}
 use Rattle.gv_vgpu.proofs.General.{put-other, put-own}
 use Rattle.gv_vgpu.proofs.Registers.{keeps-then, registers-moved}
 use Rattle.gv_vgpu.proofs.Same.{beside-same, moves-none, own-same}
@@ -66,11 +67,6 @@ finished-is p q r s engine tail w events gone same written shifted told =
     ∙ (λ i. events_given (sym shifted i) engine events)
 
 -- ---- the list without its element
-
--- no element in the private device, none at work
-pub none-at-work : (d : Device) (guest engine : ℕ) (here : Bool) (element : Option Held) → element_in d guest engine here element ≡ None → element ≡ None
-none-at-work d guest engine here None none = refl
-none-at-work d guest engine here (Some x) none = absurd (none-some _ (sym none))
 
 module _ (d : Device) (old new : Vgpu) (here : ℕ → Bool) (engine : ℕ) (s : Execlists) (holds : Holds d old here) (none : (engine_at old engine).element ≡ None)
     (gtt : new.gtt ≡ old.gtt) (engines : new.engines ≡ old.engines) (failsafe : new.failsafe ≡ old.failsafe) (same : SameGuest old.mmio new.mmio)
@@ -122,6 +118,7 @@ module _ (d : Device) (old new : Vgpu) (here : ℕ → Bool) (engine : ℕ) (s :
     ranges = λ i. ranges_of (gtt i);
     outside = refl;
     live = moves-none d (own_live old) (own_live new) (own-same old new (λ k i. (engine-same k i).element) gtt);
+    copies = comes-none d old new (λ k i. (engine-same k i).element);
   }
 
 -- ---- all of it

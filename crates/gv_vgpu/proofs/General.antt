@@ -27,6 +27,7 @@ use Rattle.gv_vgpu.specs.Vgpu.{engine_at, engine_in, element_in, general_in, pri
 use Rattle.gv_vgpu.specs.Standing.{Holds, IsAway, StandsAtWork, StandsOn}
 use Rattle.gv_vgpu.specs.declared.engine.Engine.{Engine}
 use Rattle.gv_vgpu.specs.declared.vgpu.Vgpu.{Vgpu}
+use Rattle.gv_vgpu.proofs.Copies.{comes-none}
 use Rattle.gv_vgpu.proofs.Engines.{each-engine}
 use Rattle.gv_vgpu.proofs.Same.{beside-same, moves-none, own-same}
 
@@ -148,6 +149,7 @@ module _ (d : Device) (v : Vgpu) (here : ℕ → Bool) (holds : Holds d v here) 
     ranges = refl;
     outside = λ i. record (outside (guest_part (number_of v.gtt) (ranges_of v.gtt) here) d) { general = λ k. outside-after k i };
     live = λ enough. refl;
+    copies = λ k x is. (is, λ j two within. refl);
   }
 
 -- ---- the registers that are kept
@@ -229,4 +231,5 @@ module _ (d : Device) (old new : Vgpu) (here : ℕ → Bool) (holds : Holds d ol
     ranges = λ i. ranges_of (gtt i);
     outside = refl;
     live = moves-none d (own_live old) (own_live new) (own-same old new same-element gtt);
+    copies = comes-none d old new same-element;
   }

@@ -1,6 +1,7 @@
 mod Working
 mod First
 mod Engines
+pub mod Copies
 mod Same
 mod Failing
 mod Staying

@@ -40,11 +40,13 @@ use Rattle.gv_sring.proofs.Named.{named-at}
 use Rattle.gv_sring.proofs.Slots.{in-window}
 use Rattle.gv_turn.specs.Owned.{OwnsLeft}
 use Rattle.gv_turn.proofs.Owned.{begins_owned}
-use Rattle.gv_vgpu.specs.Changes.{Keeps, LiveMoves, Stops, held_on, own_live, window_pages}
+use Rattle.gv_vgpu.specs.Changes.{LiveMoves, MayLoad, Stops, held_on, own_live, window_pages}
 use Rattle.gv_vgpu.specs.Vgpu.{element_in, engine_at, general_in, no_engine, private_of}
 use Rattle.gv_vgpu.specs.Standing.{AreBeside, HasRoomToLoad, Holds, IsAway, StandsAtWork, StandsIdle, StandsOn}
 use Rattle.gv_vgpu.specs.declared.engine.Engine.{Engine}
 use Rattle.gv_vgpu.specs.declared.vgpu.Vgpu.{Vgpu}
+use Rattle.gv_vgpu.specs.Copies.{CopiesStay, KeepsCopies}
+use Rattle.gv_vgpu.proofs.Copies.{copies-kept}
 use Rattle.gv_vgpu.proofs.Engines.{each-engine}
 use Rattle.gv_vgpu.proofs.General.{not-equal, other-number, put-by, same-number}
 use Rattle.gv_vgpu.proofs.Kept.{past-ranges}
@@ -366,7 +368,24 @@ module _ (d e : Device) (old : Vgpu) (engines : List Engine) (count : length eng
       let live = loads.live in
       omega arith
 
-  pub load-keeps-all : Keeps here d e old new
+  -- ---- the copies of the others
+
+  copies-beside : (k : ℕ) → k ≢ engine → (y : Held) → (engine_at old k).element ≡ Some y → KeepsCopies y.window d e
+  copies-beside k differ y at =
+      each-engine old (λ k element. (y : Held) → element ≡ Some y → KeepsCopies y.window d e)
+      (λ k below y is.
+      let other : StandsAtWork d old k (here k) y = subst (λ o. StandsOn d old k (here k) o) is (holds.engines k below) in
+      copies-kept d e (element_part guest engine []) (element_part guest engine x.window.pages) y.window other.works.runs.shows (λ j less. refl) loads.outside)
+      (λ k y is. absurd (none-some y is)) k y at
+
+  copies-stay : CopiesStay d e old new
+  copies-stay k y z was is =
+      let differ : k ≢ engine = (λ same. none-some y (sym none ∙ (λ i. (engine_at old (sym same i)).element) ∙ was)) in
+      let both : Some z ≡ Some y = sym is ∙ (λ i. (others k differ i).element) ∙ was in
+      let held : z ≡ y = cc in
+      (held, copies-beside k differ y was)
+
+  pub load-keeps-all : MayLoad here d e old new
   load-keeps-all = record {
     holds = holds-now;
     number = refl;
@@ -376,6 +395,7 @@ module _ (d e : Device) (old : Vgpu) (engines : List Engine) (count : length eng
         outside-widen (element_part guest engine []) (element_part guest engine x.window.pages) (guest_part guest (ranges_of old.gtt) here) d e
         (load-within guest engine [] (ranges_of old.gtt) here four own) (load-within guest engine x.window.pages (ranges_of old.gtt) here four own) loads.outside;
     live = live-now;
+    copies = copies-stay;
   }
 
 -- ---- one that failed
@@ -421,7 +441,7 @@ module _ (d e : Device) (old new : Vgpu) (here : ℕ → Bool) (engine shadow_ro
       load-is d e old new.engines new.four here engine shadow_root image ring batches x holds room four own none running awake form root shadow scanned loads own-new others
       ∙ (λ i. Ok (private_of e (put i) here))
 
-  pub put-keeps : Keeps here d e old new
+  pub put-keeps : MayLoad here d e old new
   put-keeps =
-      subst (λ v. Keeps here d e old v) put
+      subst (λ v. MayLoad here d e old v) put
       (load-keeps-all d e old new.engines new.four here engine shadow_root image ring batches x holds room four own none running awake form root shadow scanned loads own-new others)

@@ -27,11 +27,12 @@ use Rattle.gv_sppgtt.specs.Grown.{count_of}
 use Rattle.gv_sppgtt.proofs.OwnPages.{own-same}
 use Rattle.gv_sring.specs.Window.{Window, WindowIsAbsent, page_at}
 use Rattle.gv_turn.specs.Owned.{OwnsLeft}
-use Rattle.gv_vgpu.specs.Changes.{Keeps, held_on, injected, journalled, own_live, replied, window_pages}
+use Rattle.gv_vgpu.specs.Changes.{Keeps, MayLoad, held_on, injected, journalled, own_live, replied, window_pages}
 use Rattle.gv_vgpu.specs.Access.{Replies}
 use Rattle.gv_vgpu.specs.Vgpu.{element_in, engine_at, engine_in, engines_of, general_in, no_engine, private_of}
 use Rattle.gv_vgpu.specs.Standing.{Holds, StandsAtWork, StandsOn}
 use Rattle.gv_vgpu.specs.declared.vgpu.Vgpu.{Vgpu}
+use Rattle.gv_vgpu.proofs.Copies.{comes-tables, may-load}
 use Rattle.gv_vgpu.proofs.Engines.{each-engine}
 use Rattle.gv_vgpu.proofs.Kept.{works-on}
 use Rattle.gv_vgpu.proofs.Same.{beside-same}
@@ -141,6 +142,7 @@ module _
       ranges = ranges;
       outside = changes_stay_inside d e old.gtt old.gtt here of-frames;
       live = λ enough i. changes.live i + sym pages-as i;
+      copies = comes-tables d e old new here (gtt_part old.gtt) holds of-frames.outside (λ k i. (engine-same k i).element);
     }
 
 -- where a frame isn't kept it is moved
@@ -158,6 +160,6 @@ pub move-replies :
 move-replies here d e old new event guest frame kept reply is same left keeps told = record {
   reply_is = (λ i. (answer (private_of d old here) (is i)).reply) ∙ (λ i. replied guest (sym same i) (injected None)) ∙ sym told;
   left = (λ i. (answer (private_of d old here) (is i)).left) ∙ sym left;
-  keeps = subst (λ ran. Keeps here (journalled d ran) e old new) (λ i. (answer (private_of d old here) (sym is i)).ran)
-      (subst (λ (x : Device). Keeps here x e old new) (λ i. record d { journal = sym (append-nil d.journal) i }) keeps);
+  keeps = subst (λ ran. MayLoad here (journalled d ran) e old new) (λ i. (answer (private_of d old here) (sym is i)).ran)
+      (subst (λ (x : Device). MayLoad here x e old new) (λ i. record d { journal = sym (append-nil d.journal) i }) (may-load here d e old new keeps));
 }

@@ -10,7 +10,7 @@ use Rattle.gv_mmio.specs.Mmio.{ports_at}
 use Rattle.gv_private.specs.Device.{PrivateDevice, fails, quietly}
 use Rattle.gv_private.specs.Load.{loaded}
 use Rattle.gv_private.specs.Turn.{load_by, next_by, turned, turned_as, turned_by}
-use Rattle.gv_vgpu.specs.Changes.{Keeps, Makes, MayFail, Turns, injected, journalled}
+use Rattle.gv_vgpu.specs.Changes.{Makes, MayFail, MayLoad, Turns, injected, journalled}
 use Rattle.gv_vgpu.specs.Loading.{Refuses}
 use Rattle.gv_vgpu.specs.Vgpu.{element_in, engine_at, private_of}
 use Rattle.gv_vgpu.specs.Standing.{Holds}
@@ -18,6 +18,7 @@ use Rattle.gv_vgpu.specs.declared.load.Refusal.{Refusal}
 use Rattle.gv_vgpu.specs.declared.load.Refusal.TheVariants.{Fails}
 use Rattle.gv_vgpu.specs.declared.vgpu.Vgpu.{Vgpu}
 use Rattle.gv_vgpu.specs.declared.notice.Notice.{Notice}
+use Rattle.gv_vgpu.proofs.Copies.{may-load}
 use Rattle.gv_vgpu.proofs.Failing.{fails-then}
 
 -- ---- what a refusal says
@@ -49,11 +50,11 @@ module _ (d : Device) (v : Vgpu) (here : ℕ → Bool) (engine word : ℕ) (none
       ∙ next-loads p engine word (ports_at v.mmio engine).slots.running (sym front)
 
   -- The element is loaded.
-  pub turns-loaded : (e : Device) (new : Vgpu) (notice : Notice) → notice ≡ injected None → loaded p engine word ≡ Ok (private_of e new here) → Keeps here d e v new → Turns here d e v new (turned p engine) Loaded notice
+  pub turns-loaded : (e : Device) (new : Vgpu) (notice : Notice) → notice ≡ injected None → loaded p engine word ≡ Ok (private_of e new here) → MayLoad here d e v new → Turns here d e v new (turned p engine) Loaded notice
   turns-loaded e new notice same is keeps =
       subst (λ n. Turns here d e v new (turned p engine) Loaded n) (sym same)
       (subst (λ t. Turns here d e v new t Loaded (injected None)) (sym (turn-loads ∙ (λ i. load_by p (is i))))
-      (record { outcome_is = refl; left = refl; keeps = subst (λ x. Keeps here x e v new) (none-ran d) keeps }))
+      (record { outcome_is = refl; left = refl; keeps = subst (λ x. MayLoad here x e v new) (none-ran d) keeps }))
 
   -- It isn't, and the guest fails.
   pub turns-failed :
@@ -62,4 +63,4 @@ module _ (d : Device) (v : Vgpu) (here : ℕ → Bool) (engine word : ℕ) (none
   turns-failed e f mid new reason notice holds is may_fail made =
       let makes : Makes here d f v new (fails p reason) notice = fails-then here d e f v mid new (memory_of d v.gtt) reason notice holds.number holds.ranges may_fail made in
       subst (λ t. Turns here d f v new t Failed notice) (sym (turn-loads ∙ (λ i. load_by p (is i))))
-      (record { outcome_is = refl; left = makes.written; keeps = subst (λ x. Keeps here x f v new) (none-ran d) makes.keeps })
+      (record { outcome_is = refl; left = makes.written; keeps = subst (λ x. MayLoad here x f v new) (none-ran d) (may-load here d f v new makes.keeps) })

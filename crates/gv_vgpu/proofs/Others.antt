@@ -7,8 +7,8 @@ use Rattle.gv_element.proofs.Staying.{part-keeps-work}
 use Rattle.gv_entry.specs.Ranges.{owns_page}
 use Rattle.gv_gpu.specs.Change.{Leaves}
 use Rattle.gv_gpu.specs.Device.{Device}
-use Rattle.gv_gpu.specs.Part.{Part, first_of_window, inside, is_in_windows, standing_part}
-use Rattle.gv_gpu.proofs.Seen.{general-same, global-same, loaded-same}
+use Rattle.gv_gpu.specs.Part.{Part, first_of_window, inside, is_in_windows, shadow_label, standing_part}
+use Rattle.gv_gpu.proofs.Seen.{general-same, global-same, loaded-same, words-same}
 use Rattle.gv_gtt.specs.Gtt.{HasRoomFor, number_of, over, ranges_of}
 use Rattle.gv_gtt.proofs.Others.{standing-covers as tables-covered}
 use Rattle.gv_gtt.proofs.Standing.{translated_stays, translation_stays}
@@ -16,10 +16,12 @@ use Rattle.gv_mmio.specs.Mmio.{behind}
 use Rattle.gv_private.specs.Device.{reset_engine}
 use Rattle.gv_sring.proofs.Slots.{in-windows}
 use Rattle.gv_turn.specs.Owned.{OwnsLeft}
-use Rattle.gv_vgpu.specs.Laws.{DeviceStands, DeviceStays}
+use Rattle.gv_sring.specs.Window.{page_at}
+use Rattle.gv_vgpu.specs.Laws.{CopiesStand, DeviceStands, DeviceStays}
 use Rattle.gv_vgpu.specs.Vgpu.{element_in, engine_at, engines_of, general_in, private_of}
 use Rattle.gv_vgpu.specs.Standing.{Holds, IsAway, StandsAtWork, StandsIdle, StandsOn}
 use Rattle.gv_vgpu.specs.declared.vgpu.Vgpu.{Vgpu}
+use Rattle.gv_vgpu.proofs.Copies.{comes-each}
 use Rattle.gv_vgpu.proofs.Engines.{each-engine}
 
 module _ (d e : Device) (v : Vgpu) (here : ℕ → Bool) (holds : Holds d v here) (same : inside (standing_part (number_of v.gtt) (ranges_of v.gtt) here) e ≡ inside (standing_part (number_of v.gtt) (ranges_of v.gtt) here) d) where
@@ -97,6 +99,13 @@ module _ (d e : Device) (v : Vgpu) (here : ℕ → Bool) (holds : Holds d v here
     sixteen = λ k n own above. (λ i. general-same part d e same k own i n) ∙ holds.sixteen k n own above;
     kept = holds.kept;
   }
+
+pub copies_stand : CopiesStand
+copies_stand d e v here holds same =
+    comes-each d e v v here holds (λ k. refl)
+    (λ k x four at stands j two within.
+    let covered = standing-covers (number_of v.gtt) k (ranges_of v.gtt) here x.window stands.works.window in
+    words-same (standing_part (number_of v.gtt) (ranges_of v.gtt) here) d e same (page_at x.window j) (shadow_label x.window.guest) (covered.page j within) (stands.works.runs.shows.label j within))
 
 pub device_stands : DeviceStands
 device_stands d e v here holds same away room = holds-still d e v here holds same away room

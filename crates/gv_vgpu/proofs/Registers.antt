@@ -15,10 +15,11 @@ use Rattle.gv_private.specs.Status.{in_ring}
 use Rattle.gv_sring.specs.Window.{WindowIsAbsent}
 use Rattle.gv_turn.specs.Owned.{OwnsLeft}
 use Rattle.gv_types.specs.declared.ranges.Ranges.{Ranges}
-use Rattle.gv_vgpu.specs.Changes.{Keeps, own_live}
+use Rattle.gv_vgpu.specs.Changes.{Keeps, MayLoad, own_live}
 use Rattle.gv_vgpu.specs.Vgpu.{engine_at, engine_in, no_engine, private_of}
 use Rattle.gv_vgpu.specs.Standing.{Holds, IsAway, StandsOn}
 use Rattle.gv_vgpu.specs.declared.vgpu.Vgpu.{Vgpu}
+use Rattle.gv_vgpu.proofs.Copies.{comes-none, comes-then, stay-then}
 use Rattle.gv_vgpu.proofs.General.{same-number}
 use Rattle.gv_vgpu.proofs.Same.{beside-same, moves-none, moves-then, own-same}
 
@@ -70,6 +71,7 @@ module _ (d : Device) (old new : Vgpu) (here : ℕ → Bool) (holds : Holds d ol
     ranges = λ i. ranges_of (gtt i);
     outside = refl;
     live = moves-none d (own_live old) (own_live new) (own-same old new (λ k i. (engine-same k i).element) gtt);
+    copies = comes-none d old new (λ k i. (engine-same k i).element);
   }
 
 -- one call after another
@@ -84,6 +86,23 @@ keeps-then here d e f a b c first second = record {
       (subst (λ guest. outside (guest_part guest (ranges_of b.gtt) here) f ≡ outside (guest_part guest (ranges_of b.gtt) here) e) first.number second.outside)
       ∙ first.outside;
   live = moves-then d e f (own_live a) (own_live b) (own_live c) first.live second.live;
+  copies = comes-then d e f a b c first.copies second.copies;
+}
+
+-- one that may put an element to work, behind one that leaves the elements
+pub load-then :
+    (here : ℕ → Bool) (d e f : Device) (a b c : Vgpu) → ((k : ℕ) → (engine_at b k).element ≡ (engine_at a k).element) → Keeps here d e a b → MayLoad here e f b c → MayLoad here d f a c
+load-then here d e f a b c elements first second = record {
+  holds = second.holds;
+  number = second.number ∙ first.number;
+  frames = second.frames ∙ first.frames;
+  ranges = second.ranges ∙ first.ranges;
+  outside =
+      subst (λ (ranges : Ranges). outside (guest_part (number_of a.gtt) ranges here) f ≡ outside (guest_part (number_of a.gtt) ranges here) e) first.ranges
+      (subst (λ guest. outside (guest_part guest (ranges_of b.gtt) here) f ≡ outside (guest_part guest (ranges_of b.gtt) here) e) first.number second.outside)
+      ∙ first.outside;
+  live = moves-then d e f (own_live a) (own_live b) (own_live c) first.live second.live;
+  copies = stay-then d e f a b c elements first.copies second.copies;
 }
 
 -- an event in the ring stops no list

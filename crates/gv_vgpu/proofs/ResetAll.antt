@@ -14,6 +14,7 @@ use Rattle.gv_vgpu.specs.Vgpu.{engine_at, element_in}
 use Rattle.gv_vgpu.specs.Reset.{AreReset, IsReset, are_below, are_named_below, zero_engine}
 use Rattle.gv_vgpu.specs.Standing.{Occupies}
 use Rattle.gv_vgpu.specs.declared.vgpu.Vgpu.{Vgpu}
+use Rattle.gv_vgpu.proofs.Copies.{comes-none, comes-then}
 use Rattle.gv_vgpu.proofs.Resets.{one-reset}
 use Rattle.gv_vgpu.proofs.Same.{moves-none, moves-then}
 
@@ -42,6 +43,7 @@ none-reset here d v occupies = record {
   memory = refl;
   outside = refl;
   live = moves-none d (own_live v) (own_live v) refl;
+  copies = comes-none d v v (λ k. refl);
 }
 
 -- what is outside of a guest's part, over two calls that keep its memory and tables
@@ -81,6 +83,7 @@ module _ (p q here : ℕ → Bool) (d e f : Device) (a b c : Vgpu) (first : AreR
     memory = (λ i. memory_of f (sym first.gtt i)) ∙ second.memory ∙ (λ i. memory_of e (first.gtt i)) ∙ first.memory;
     outside = outside-then here d e f a b first.gtt first.outside second.outside;
     live = moves-then d e f (own_live a) (own_live b) (own_live c) first.live second.live;
+    copies = comes-then d e f a b c first.copies second.copies;
   }
 
 -- one engine more

@@ -24,8 +24,11 @@ use Rattle.gv_mmio.specs.Mmio.{guest_of, ports_at, ranges_of as mmio_ranges}
 use Rattle.gv_vgpu.specs.Changes.{LiveMoves, held_on, own_live, window_pages}
 use Rattle.gv_vgpu.specs.Vgpu.{engine_at, element_in}
 use Rattle.gv_vgpu.specs.Reset.{AreReset, IsReset, reset_part}
-use Rattle.gv_vgpu.specs.Standing.{Occupies, OccupiesOn, StandsIdle, StandsOn}
+use Rattle.gv_vgpu.specs.Standing.{HasWindow, Occupies, OccupiesOn, StandsIdle, StandsOn}
 use Rattle.gv_vgpu.specs.declared.vgpu.Vgpu.{Vgpu}
+use Rattle.gv_vgpu.specs.Copies.{KeepsCopies, NoneComes}
+use Rattle.gv_vgpu.proofs.Copies.{copies-kept}
+use Rattle.gv_vgpu.proofs.Engines.{each-engine}
 use Rattle.gv_vgpu.proofs.General.{not-equal, other-number, same-number}
 use Rattle.gv_gtt.specs.Standing.{Stands, Translates}
 use Rattle.gv_gtt.proofs.Others.{part-covers}
@@ -282,6 +285,20 @@ module _ (d e : Device) (old new : Vgpu) (here : ℕ → Bool) (engine : ℕ) (f
       (without-one engine four (held_on old) (held_on new) held-none held-other) r.live enough
       ∙ (λ i. d.live + (length (frames_of (sym r.gtt i)).pages + own_pages (sym r.gtt i) + (held_on new 0 + held_on new 1 + held_on new 2 + held_on new 3)))
 
+  -- the window of another element has none of the pages that changed
+  copies-of : (k : ℕ) → k ≢ engine → (y : Held) → (engine_at old k).element ≡ Some y → KeepsCopies y.window d e
+  copies-of k differ y at =
+      each-engine old (λ k element. k ≢ engine → (y : Held) → element ≡ Some y → (engine_at old k).element ≡ Some y → KeepsCopies y.window d e)
+      (λ k below differ y is at.
+      let stands : HasWindow d old k (here k) y = subst (λ o. OccupiesOn d old k (here k) o) is (occupies.engines k below) in
+      copies-kept d e before after y.window stands.works.runs.shows (λ j less. ap (λ b. b && is_shadow_of guest (Some (shadow_label y.window.guest))) (r.apart k y differ at j less)) r.outside)
+      (λ k differ y is at. absurd (none-some y is)) k differ y at at
+
+  comes : NoneComes d e old new
+  comes k x is =
+      let there = with-element k x (eqb k engine) refl is in
+      (there, copies-of k (λ same. none-some x (sym own-none ∙ ap (λ n. (engine_at new n).element) (sym same) ∙ is)) x there)
+
   pub one-reset : AreReset (λ k. eqb k engine) here d e old new
   one-reset = record {
     gtt = r.gtt;
@@ -299,4 +316,5 @@ module _ (d e : Device) (old new : Vgpu) (here : ℕ → Bool) (engine : ℕ) (f
     memory = memory-left d e old.gtt tables-left occupies.stands;
     outside = outside-widen before after (guest_part guest (ranges_of old.gtt) here) d e (reset-within guest engine here r.pages d old four) (reset-within guest engine here [] d old four) r.outside;
     live = live-then;
+    copies = comes;
   }

@@ -8,7 +8,7 @@ use Rattle.gv_element.specs.Works.{Held}
 use Rattle.gv_entry.specs.SameTables.{has}
 use Rattle.gv_gpu.specs.Device.{Device}
 use Rattle.gv_gtt.specs.Changes.{Changes}
-use Rattle.gv_gtt.specs.Gtt.{frames_of, memory_of, nodes_in, number_of, over, roots_in}
+use Rattle.gv_gtt.specs.Gtt.{frames_of, gtt_part, memory_of, nodes_in, number_of, over, roots_in}
 use Rattle.gv_gtt.specs.Standing.{Stands, Translates}
 use Rattle.gv_gtt.specs.declared.gtt.Gtt.{Gtt}
 use Rattle.gv_gtt.proofs.Announced.{without-none}
@@ -23,6 +23,7 @@ use Rattle.gv_vgpu.specs.Vgpu.{element_in, engine_at, private_of}
 use Rattle.gv_vgpu.specs.Standing.{Holds, StandsOn}
 use Rattle.gv_vgpu.specs.declared.vgpu.Vgpu.{Vgpu}
 use Rattle.gv_vgpu.specs.declared.notice.Notice.{Notice}
+use Rattle.gv_vgpu.proofs.Copies.{comes-tables}
 use Rattle.gv_vgpu.proofs.Failing.{fails-then, may-fail-after}
 use Rattle.gv_vgpu.proofs.Kept.{engine-same, idle-on, private-after, stands-on}
 use Rattle.gv_vgpu.proofs.Working.{over-private}
@@ -112,6 +113,7 @@ module _ (d e : Device) (old new : Vgpu) (here : ℕ → Bool) (holds : Holds d 
     ranges = left.ranges;
     outside = left.outside;
     live = left.live;
+    copies = comes-tables d e old new here (gtt_part new.gtt) holds changes.outside (λ k i. (engine-same d e old new here holds changes registers engines failsafe k i).element);
   }
     where
       left : MayFail here d e old new (memory_of e new.gtt)

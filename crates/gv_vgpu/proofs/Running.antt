@@ -27,10 +27,11 @@ use Rattle.gv_sctx.specs.Context.{FitsDwords}
 use Rattle.gv_sring.specs.Window.{Shows, Window, page_at}
 use Rattle.gv_turn.specs.Owned.{OwnsLeft}
 use Rattle.gv_turn.specs.Work.{own_entry}
-use Rattle.gv_vgpu.specs.Changes.{Keeps, Makes, Turns, injected, journalled, own_live}
+use Rattle.gv_vgpu.specs.Changes.{Keeps, Makes, MayLoad, Turns, injected, journalled, own_live}
 use Rattle.gv_vgpu.specs.Vgpu.{element_in, engine_at, engine_in, general_in, private_of}
 use Rattle.gv_vgpu.specs.Standing.{Holds, StandsAtWork, StandsOn}
 use Rattle.gv_vgpu.specs.declared.vgpu.Vgpu.{Vgpu}
+use Rattle.gv_vgpu.proofs.Copies.{comes-each, may-load}
 use Rattle.gv_vgpu.proofs.Engines.{each-engine}
 use Rattle.gv_vgpu.proofs.General.{not-equal, other-number, same-number}
 use Rattle.gv_vgpu.proofs.Registers.{keeps-then}
@@ -210,11 +211,13 @@ module _ (d : Device) (v : Vgpu) (here : ℕ → Bool) (engine : ℕ) (x : Held)
         outside-widen (step_part number engine) (step_part number engine) (guest_part number (ranges_of v.gtt) here) (journalled d ran) after
         (step-within number (ranges_of v.gtt) here engine own) (step-within number (ranges_of v.gtt) here engine own) runs.device.outside;
     live = λ enough i. runs.device.live i + own_live v;
+    copies = comes-each d after v v here holds (λ k. refl) (λ k y below at other j two within. (keeps-window y.window other.works.window.guest_is other.works.runs.shows).words j within);
   }
 
   pub ran-turns : (raise : ℕ) (new : Vgpu) (irq : Option ℕ) → raise ≡ runs.raise → Makes here after after v new (command_raised (private_of after v here) engine raise) (injected irq) → Turns here d after v new (turned p engine) outcomes.Ran (injected irq)
   ran-turns raise new irq same made = record {
     outcome_is = λ i. (runs.turn i).outcome;
     left = (λ i. (runs.turn i).left) ∙ (λ i. command_raised (sym ran-private i) engine (sym same i)) ∙ made.written;
-    keeps = subst (λ ran. Keeps here (journalled d ran) after v new) (sym (λ i. (runs.turn i).ran)) (keeps-then here (journalled d ran) after after v v new ran-keeps made.keeps);
+    keeps = subst (λ ran. MayLoad here (journalled d ran) after v new) (sym (λ i. (runs.turn i).ran))
+        (may-load here (journalled d ran) after v new (keeps-then here (journalled d ran) after after v v new ran-keeps made.keeps));
   }

@@ -23,6 +23,7 @@ use Rattle.gv_vgpu.specs.Reset.{AreReset, are_below, are_named_below, zero_engin
 use Rattle.gv_vgpu.specs.Standing.{HoldsBut, Occupies, OccupiesOn, StandsIdle, StandsOn}
 use Rattle.gv_vgpu.specs.declared.engine.Engine.{Engine}
 use Rattle.gv_vgpu.specs.declared.vgpu.Vgpu.{Vgpu}
+use Rattle.gv_vgpu.proofs.Copies.{comes-gone}
 use Rattle.gv_vgpu.proofs.Engines.{none-past}
 use Rattle.gv_vgpu.proofs.Kept.{idle-on}
 use Rattle.gv_vgpu.proofs.Same.{moves-then, moves-with-tables}
@@ -128,6 +129,7 @@ module _ (named : List Bool) (here : ℕ → Bool) (d e : Device) (old new : Vgp
     ranges = λ i. ranges_of (r.gtt i);
     outside = r.outside;
     live = r.live;
+    copies = r.copies;
   }
 
 -- ---- all of them, and then memory and tables, registers and ports
@@ -212,4 +214,5 @@ module _ (here : ℕ → Bool) (d e f : Device) (old mid new : Vgpu) (failsafe :
     ranges = ranges-same;
     outside = subst (λ g. outside (guest_part (number_of g) (ranges_of g) here) f ≡ outside (guest_part (number_of g) (ranges_of g) here) e) r.gtt (changes_stay_inside e f mid.gtt new.gtt here changes) ∙ r.outside;
     live = moves-then d e f (own_live old) (own_live mid) (own_live new) r.live (moves-with-tables mid new (λ k i. (engine-same k i).element) e f frames-same changes.live);
+    copies = comes-gone d f old new none-at;
   }

@@ -18,13 +18,14 @@ use Rattle.gv_shape.specs.Shadow.{Pages}
 use Rattle.gv_sring.specs.Window.{page_at}
 use Rattle.gv_turn.specs.Work.{EndsAlike, FailsAlike, RunsAlike, StepIs, WaitsAlike}
 use Rattle.gv_turn.proofs.Steps.{step_is_turn}
-use Rattle.gv_vgpu.specs.Changes.{Keeps, Makes, Stops, Turns, injected, journalled}
+use Rattle.gv_vgpu.specs.Changes.{Keeps, Makes, MayLoad, Stops, Turns, injected, journalled}
 use Rattle.gv_vgpu.specs.Turn.{Completes, HasEnded, Unmade}
 use Rattle.gv_types.specs.declared.reply.Stop.{Stop}
 use Rattle.gv_vgpu.specs.Vgpu.{engine_at, private_of, working_in}
 use Rattle.gv_vgpu.specs.Standing.{Holds, StandsAtWork}
 use Rattle.gv_vgpu.specs.declared.vgpu.Vgpu.{Vgpu}
 use Rattle.gv_vgpu.specs.declared.notice.Notice.{Notice}
+use Rattle.gv_vgpu.proofs.Copies.{comes-none, may-load}
 use Rattle.gv_vgpu.proofs.Others.{holds-still, private-still}
 use Rattle.gv_vgpu.proofs.Registers.{keeps-then}
 use Rattle.gv_vgpu.proofs.Working.{at-work, standing}
@@ -118,13 +119,13 @@ module _ (d : Device) (v : Vgpu) (here : ℕ → Bool) (engine : ℕ) (x : Held)
 -- ---- the turn, by the engine's answer
 
 pub keeps-none : (d : Device) (v : Vgpu) (here : ℕ → Bool) → Holds d v here → Keeps here d d v v
-keeps-none d v here holds = record { holds = holds; number = refl; frames = refl; ranges = refl; outside = refl; live = λ enough. refl }
+keeps-none d v here holds = record { holds = holds; number = refl; frames = refl; ranges = refl; outside = refl; live = λ enough. refl; copies = comes-none d v v (λ k. refl) }
 
 -- no command ran
-pub none-ran : (here : ℕ → Bool) (d e : Device) (old new : Vgpu) (ran : List PrivateEntry) → ran ≡ [] → Keeps here d e old new → Keeps here (journalled d ran) e old new
+pub none-ran : (here : ℕ → Bool) (d e : Device) (old new : Vgpu) (ran : List PrivateEntry) → ran ≡ [] → Keeps here d e old new → MayLoad here (journalled d ran) e old new
 none-ran here d e old new ran none keeps =
-    subst (λ ran. Keeps here (journalled d ran) e old new) (sym none)
-    (subst (λ journal. Keeps here (record d { journal = journal }) e old new) (sym (append-nil d.journal)) keeps)
+    subst (λ ran. MayLoad here (journalled d ran) e old new) (sym none)
+    (subst (λ journal. MayLoad here (record d { journal = journal }) e old new) (sym (append-nil d.journal)) (may-load here d e old new keeps))
 
 module _ (d e : Device) (v : Vgpu) (here : ℕ → Bool) (engine : ℕ) (x : Held) (holds : Holds d v here) (four : engine < 4) (own : here engine ≡ true) (is : (engine_at v engine).element ≡ Some x) (after : e ≡ (physical_step d engine).after) where
   -- the context was taken off
@@ -185,7 +186,7 @@ module _ (d : Device) (room : ℕ) (v : Vgpu) (here : ℕ → Bool) (holds : Hol
   spared-private = private-still d (with_spare d room) v here holds refl
 
   pub spared-keeps : Keeps here d (with_spare d room) v v
-  spared-keeps = record { holds = spared-holds; number = refl; frames = refl; ranges = refl; outside = refl; live = λ enough. refl }
+  spared-keeps = record { holds = spared-holds; number = refl; frames = refl; ranges = refl; outside = refl; live = λ enough. refl; copies = λ k x is. (is, λ j two within. refl) }
 
   pub spared-turns : (engine : ℕ) (e : Device) (new : Vgpu) (outcome : Outcome) (notice : Notice) → Turns here (with_spare d room) e v new (turned (private_of (with_spare d room) v here) engine) outcome notice
       → Turns here d e v new (turned (private_of d v here) engine) outcome notice
@@ -201,6 +202,7 @@ module _ (d : Device) (room : ℕ) (v : Vgpu) (here : ℕ → Bool) (holds : Hol
           ranges = same.keeps.ranges;
           outside = same.keeps.outside;
           live = same.keeps.live;
+          copies = same.keeps.copies;
         };
       }
 

@@ -4,7 +4,7 @@ use Rattle.gv_types.specs.declared.event.Width.{Width}
 use Rattle.gv_entry.specs.Global.{entry_of, with_entry}
 use Rattle.gv_gpu.specs.Device.{Device}
 use Rattle.gv_gtt.specs.Changes.{Changes}
-use Rattle.gv_gtt.specs.Gtt.{frames_of, over, ranges_of, entries_of}
+use Rattle.gv_gtt.specs.Gtt.{frames_of, gtt_part, over, ranges_of, entries_of}
 use Rattle.gv_gtt.specs.Standing.{Translates}
 use Rattle.gv_gtt.proofs.Others.{changes_stay_inside}
 use Rattle.gv_private.specs.Access.{entry_after, page_at, table_written}
@@ -13,6 +13,7 @@ use Rattle.gv_vgpu.specs.Changes.{Keeps}
 use Rattle.gv_vgpu.specs.Vgpu.{no_engine, private_of}
 use Rattle.gv_vgpu.specs.Standing.{Holds}
 use Rattle.gv_vgpu.specs.declared.vgpu.Vgpu.{Vgpu}
+use Rattle.gv_vgpu.proofs.Copies.{comes-tables}
 use Rattle.gv_vgpu.proofs.Kept.{KeepsRoots, holds-after, private-after}
 use Rattle.gv_vgpu.proofs.Same.{moves-with-tables}
 use Rattle.gv_vgpu.proofs.Working.{over-private}
@@ -27,6 +28,7 @@ module _ (d e : Device) (old new : Vgpu) (here : ℕ → Bool) (holds : Holds d 
     ranges = changes.ranges;
     outside = changes_stay_inside d e old.gtt new.gtt here changes;
     live = moves-with-tables old new (λ k i. (slice_index_or (engines i) k no_engine).element) d e frames-same changes.live;
+    copies = comes-tables d e old new here (gtt_part new.gtt) holds changes.outside (λ k i. (slice_index_or (engines i) k no_engine).element);
   }
     where
       frames-same : length (frames_of new.gtt).pages ≡ length (frames_of old.gtt).pages

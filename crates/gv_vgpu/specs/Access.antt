@@ -16,7 +16,7 @@ use Rattle.gv_gtt.specs.Gtt.{frames_of, levels_of}
 use Rattle.gv_guest.specs.Move.{MovesFrame}
 use Rattle.gv_private.specs.Device.{PrivateDevice}
 use Rattle.gv_private.specs.Inputs.{Answered}
-use Rattle.gv_vgpu.specs.Changes.{Keeps, journalled}
+use Rattle.gv_vgpu.specs.Changes.{MayLoad, journalled}
 use Rattle.gv_vgpu.specs.Listed.{MayFault, MayLackMemory}
 use Rattle.gv_vgpu.specs.Vgpu.{private_of}
 use Rattle.gv_vgpu.specs.declared.vgpu.Vgpu.{Vgpu}
@@ -33,7 +33,7 @@ IsAccess number frames event = ⊥
 pub record Replies (here : ℕ → Bool) (d e : Device) (old new : Vgpu) (a : Answered) (reply : Reply) : Type 0 where
   pub reply_is : a.reply ≡ reply
   pub left : a.left ≡ private_of e new here
-  pub keeps : Keeps here (journalled d a.ran) e old new
+  pub keeps : MayLoad here (journalled d a.ran) e old new
 
 -- ---- at which accesses the device may fault, and which may lack memory
 

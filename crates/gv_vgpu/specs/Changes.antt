@@ -13,6 +13,7 @@ use Rattle.gv_gpu.specs.Part.{outside, guest_part}
 use Rattle.gv_gtt.specs.Gtt.{frames_of, memory_of, number_of, own_pages, ranges_of}
 use Rattle.gv_private.specs.Device.{Written}
 use Rattle.gv_private.specs.Turn.{JournalEntry as PrivateEntry, Turned}
+use Rattle.gv_vgpu.specs.Copies.{CopiesStay, NoneComes}
 use Rattle.gv_vgpu.specs.Vgpu.{engine_at, private_of}
 use Rattle.gv_vgpu.specs.Standing.{Holds, Occupies}
 use Rattle.gv_vgpu.specs.declared.vgpu.Vgpu.{Vgpu}
@@ -39,7 +40,8 @@ LiveMoves d e before after = before ≤ d.live → e.live + before ≡ d.live + 
 -- ---- a call
 
 -- It holds again, over as many frames and the same ranges of the same guest. Nothing of the shared device changed but
--- the guest's own part, and live pages move with the guest's own.
+-- the guest's own part, and live pages move with the guest's own. No element came, and the copies of those that stay at
+-- work are as they were.
 pub record Keeps (here : ℕ → Bool) (d e : Device) (old new : Vgpu) : Type 0 where
   pub holds : Holds e new here
   pub number : number_of new.gtt ≡ number_of old.gtt
@@ -47,6 +49,17 @@ pub record Keeps (here : ℕ → Bool) (d e : Device) (old new : Vgpu) : Type 0 
   pub ranges : ranges_of new.gtt ≡ ranges_of old.gtt
   pub outside : outside (guest_part (number_of old.gtt) (ranges_of old.gtt) here) e ≡ outside (guest_part (number_of old.gtt) (ranges_of old.gtt) here) d
   pub live : LiveMoves d e (own_live old) (own_live new)
+  pub copies : NoneComes d e old new
+
+-- The same of a call that may put an element to work: those that stay have the copies that they had.
+pub record MayLoad (here : ℕ → Bool) (d e : Device) (old new : Vgpu) : Type 0 where
+  pub holds : Holds e new here
+  pub number : number_of new.gtt ≡ number_of old.gtt
+  pub frames : length (frames_of new.gtt).pages ≡ length (frames_of old.gtt).pages
+  pub ranges : ranges_of new.gtt ≡ ranges_of old.gtt
+  pub outside : outside (guest_part (number_of old.gtt) (ranges_of old.gtt) here) e ≡ outside (guest_part (number_of old.gtt) (ranges_of old.gtt) here) d
+  pub live : LiveMoves d e (own_live old) (own_live new)
+  pub copies : CopiesStay d e old new
 
 -- It keeps that, and makes of the private device what this says, with these notices to the guest.
 pub record Makes (here : ℕ → Bool) (d e : Device) (old new : Vgpu) (w : Written) (notice : Notice) : Type 0 where
@@ -91,4 +104,4 @@ journalled d ran = record d { journal = d.journal ++ map entry_of ran }
 pub record Turns (here : ℕ → Bool) (d e : Device) (old new : Vgpu) (t : Turned) (outcome : Outcome) (notice : Notice) : Type 0 where
   pub outcome_is : t.outcome ≡ outcome
   pub left : t.left ≡ record { device = private_of e new here; irq = notice.irq; reason = notice.failsafe }
-  pub keeps : Keeps here (journalled d t.ran) e old new
+  pub keeps : MayLoad here (journalled d t.ran) e old new

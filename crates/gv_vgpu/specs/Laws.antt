@@ -9,6 +9,7 @@ use Rattle.gv_scan.specs.Layout.{Layout}
 use Rattle.gv_sring.specs.Window.{page_at}
 use Rattle.gv_turn.specs.Work.{StepIs}
 use Rattle.gv_vgpu.specs.Changes.{own_live}
+use Rattle.gv_vgpu.specs.Copies.{NoneComes}
 use Rattle.gv_vgpu.specs.Vgpu.{engine_at, working_in, private_of}
 use Rattle.gv_vgpu.specs.Standing.{Holds, IsAway}
 use Rattle.gv_vgpu.specs.declared.vgpu.Vgpu.{Vgpu}
@@ -31,6 +32,11 @@ DeviceStands = (d e : Device) (v : Vgpu) (here : ℕ → Bool) → Holds d v her
 abbrev pub DeviceStays : Type 0
 DeviceStays = (d e : Device) (v : Vgpu) (here : ℕ → Bool) → Holds d v here → inside (standing_part (number_of v.gtt) (ranges_of v.gtt) here) e ≡ inside (standing_part (number_of v.gtt) (ranges_of v.gtt) here) d
     → private_of e v here ≡ private_of d v here
+
+-- No element of its came, and the copies of those at work are as they were.
+abbrev pub CopiesStand : Type 0
+CopiesStand = (d e : Device) (v : Vgpu) (here : ℕ → Bool) → Holds d v here → inside (standing_part (number_of v.gtt) (ranges_of v.gtt) here) e ≡ inside (standing_part (number_of v.gtt) (ranges_of v.gtt) here) d
+    → NoneComes d e v v
 
 -- ---- how many pages it has
 

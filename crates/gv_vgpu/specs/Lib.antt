@@ -3,6 +3,7 @@ pub mod Vgpu
 pub mod General
 pub mod Standing
 pub mod Idle
+pub mod Copies
 pub mod Changes
 pub mod Exchange
 pub mod Reset

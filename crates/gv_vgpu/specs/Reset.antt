@@ -10,6 +10,7 @@ use Rattle.gv_gtt.specs.Standing.{Translates}
 use Rattle.gv_private.specs.Registers.{is_named as named_at}
 use Rattle.gv_sring.specs.Window.{WindowIsAbsent, page_at}
 use Rattle.gv_vgpu.specs.Changes.{LiveMoves, held_on, own_live}
+use Rattle.gv_vgpu.specs.Copies.{NoneComes}
 use Rattle.gv_vgpu.specs.Vgpu.{element_in, engine_at}
 use Rattle.gv_vgpu.specs.Standing.{Occupies, StandsOn}
 use Rattle.gv_vgpu.specs.declared.engine.Engine.{Engine}
@@ -49,7 +50,7 @@ pub record IsReset (here : ℕ → Bool) (engine : ℕ) (d e : Device) (old new 
 -- ---- the reset of some engines
 
 -- These engines were reset, and nothing else of the guest's device changed: it occupies its part of the shared one as
--- before, and an engine that wasn't reset stands if it stood.
+-- before, and an engine that wasn't reset stands if it stood, with the copies of its element as they were.
 pub record AreReset (named here : ℕ → Bool) (d e : Device) (old new : Vgpu) : Type 0 where
   pub gtt : new.gtt ≡ old.gtt
   pub mmio : new.mmio ≡ old.mmio
@@ -65,6 +66,7 @@ pub record AreReset (named here : ℕ → Bool) (d e : Device) (old new : Vgpu) 
   pub memory : memory_of e old.gtt ≡ memory_of d old.gtt
   pub outside : outside (guest_part (number_of old.gtt) (ranges_of old.gtt) here) e ≡ outside (guest_part (number_of old.gtt) (ranges_of old.gtt) here) d
   pub live : LiveMoves d e (own_live old) (own_live new)
+  pub copies : NoneComes d e old new
 
 -- the first so many engines
 abbrev pub are_below : ℕ → ℕ → Bool

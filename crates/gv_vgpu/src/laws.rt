@@ -1,4 +1,4 @@
-ghost use Rattle.gv_vgpu.specs.Laws.{DevicesAreSmall, DeviceStays, DeviceStands, StepIsItsTurn, WindowsAreSmall};
+ghost use Rattle.gv_vgpu.specs.Laws.{CopiesStand, DevicesAreSmall, DeviceStays, DeviceStands, StepIsItsTurn, WindowsAreSmall};
 ghost use Rattle.gv_vgpu.specs.Followed.{ElementsAreLoaded, TablesAreFollowed};
 
 /// A step of an engine that the guest owns, and on which an element is at work, is a turn of the private device that
@@ -8,10 +8,11 @@ pub fn a_step_is_its_turn()
 {}
 
 /// Where all that a guest has of the shared device is as it was, and there is room, its device stands there as before,
-/// for the same private device.
+/// for the same private device, with the copies of its elements at work.
 pub fn other_guests_leave_it()
     ensures stands { DeviceStands }
     ensures stays { DeviceStays }
+    ensures copies { CopiesStand }
 {}
 
 /// How many host pages a guest's device has at the most.

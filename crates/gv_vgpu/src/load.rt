@@ -9,7 +9,7 @@ ghost use Rattle.gv_private.specs.Roots.{announced};
 ghost use Rattle.gv_private.specs.Turn.{turned};
 ghost use Rattle.gv_scan.specs.Layout.{FitsWindow};
 ghost use Rattle.gv_scan.specs.Scan.{Scanned};
-ghost use Rattle.gv_vgpu.specs.Changes.{Keeps, Stops, Turns};
+ghost use Rattle.gv_vgpu.specs.Changes.{Keeps, MayLoad, Stops, Turns};
 ghost use Rattle.gv_vgpu.specs.Loading.{Refuses};
 ghost use Rattle.gv_vgpu.specs.Vgpu.{engine_at, private_of};
 ghost use Rattle.gv_vgpu.specs.Owners.{is_here};
@@ -94,7 +94,7 @@ impl Vgpu {
         requires items { Scanned (fetched (global_space (private_of (G.state gpu.old) self.old (is_here here))) engine.0 image.now) program.now.ring.items program.now.batches.items }
         requires fits { FitsWindow program.now.ring.items program.now.batches.items }
         ensures device { OnOk result (fetched_into (private_of (G.state gpu.old) self.old (is_here here)) engine.0 image.now ≡ Ok (private_of (G.state gpu.new) self.new (is_here here))) }
-        ensures keeps { OnOk result (Keeps (is_here here) (G.state gpu.old) (G.state gpu.new) self.old self.new) }
+        ensures keeps { OnOk result (MayLoad (is_here here) (G.state gpu.old) (G.state gpu.new) self.old self.new) }
         ensures stops { IfErr result (λ stop. Stops (is_here here) (G.state gpu.old) (G.state gpu.new) self.old stop) }
     {
         let root = image.root as u32;
@@ -129,7 +129,7 @@ impl Vgpu {
         requires image { IsImage image.now }
         requires root { has (roots_in self.old.gtt) image.now.root ≡ true }
         ensures device { OnOk result (fetched_into (private_of (G.state gpu.old) self.old (is_here here)) engine.0 image.now ≡ Ok (private_of (G.state gpu.new) self.new (is_here here))) }
-        ensures keeps { OnOk result (Keeps (is_here here) (G.state gpu.old) (G.state gpu.new) self.old self.new) }
+        ensures keeps { OnOk result (MayLoad (is_here here) (G.state gpu.old) (G.state gpu.new) self.old self.new) }
         ensures refuses { IfErr result (Refuses (is_here here) (G.state gpu.old) (G.state gpu.new) self.old self.new (fetched_into (private_of (G.state gpu.old) self.old (is_here here)) engine.0 image.now)) }
     {
         let program = match fetch(alloc, &self.gtt, gpu, engine, image) {
@@ -159,7 +159,7 @@ impl Vgpu {
         requires list { 0 < length (ports_at self.old.mmio engine.0).slots.running }
         requires awake { self.old.failsafe ≡ false }
         ensures device { OnOk result (loaded (private_of (G.state gpu.old) self.old (is_here here)) engine.0 descriptor ≡ Ok (private_of (G.state gpu.new) self.new (is_here here))) }
-        ensures keeps { OnOk result (Keeps (is_here here) (G.state gpu.old) (G.state gpu.new) self.old self.new) }
+        ensures keeps { OnOk result (MayLoad (is_here here) (G.state gpu.old) (G.state gpu.new) self.old self.new) }
         ensures refuses { IfErr result (Refuses (is_here here) (G.state gpu.old) (G.state gpu.new) self.old self.new (loaded (private_of (G.state gpu.old) self.old (is_here here)) engine.0 descriptor)) }
     {
         let image = match image(&self.gtt, gpu, Descriptor::of(descriptor)) {

@@ -7,7 +7,7 @@ use Rattle.gv_mediator.specs.Listed.{DeviceMayFault, DeviceMayLackMemory}
 use Rattle.gv_vgpu.specs.Vgpu.{private_of}
 use Rattle.gv_private.specs.Inputs.{answer}
 use Rattle.gv_mediator.specs.Tied.{IsAt}
-use Rattle.gv_mediator.proofs.Receiving.{guest-event, live-here, machine-then, may-fault, may-lack, ok-all, ok-then, ran-then, receiver-there, reply-is, room-here, tied-then}
+use Rattle.gv_mediator.proofs.Receiving.{copies-then, guest-event, live-here, machine-then, may-fault, may-lack, ok-all, ok-then, ran-then, receiver-there, reply-is, room-here, tied-then}
 use Rattle.gv_mediator.proofs.Promised.{moves-then, ok-both, pokes-then}
 use Rattle.gv_mediator.proofs.mediator.Mediator.guest_event.Goals as goal
 
@@ -94,6 +94,20 @@ returns-clause-tied g c =
     ok-then c.answer.result _ _ c.answer.ensures.replies
     (λ reply replies. tied-then d m c.requires.tied one k c.requires.event c.receiver-guest.ensures old here e new reply
     (subst (λ (own : ℕ → Bool). Replies own d e old new (answer (private_of d old own) one) reply) c.owned_by-here.ensures replies) m.stopped)
+
+pub returns-clause-copies : goal.returns-clause-copies
+returns-clause-copies g c =
+    let d = g.G.Gpu.state c.args.gpu.now in
+    let e = g.G.Gpu.state c.answer.new.gpu in
+    let m = c.args.self.now in
+    let k = c.receiver-guest.result.0 in
+    let old = c.index_mut-device.result.now in
+    let new = c.answer.new.device in
+    let one = c.args.event.now in
+    let here : IsAt m.guests.items k old = (receiver-there d m c.requires.tied one k c.requires.event c.receiver-guest.ensures, sym c.index_mut-device.ensures.value) in
+    ok-then c.answer.result _ _ c.answer.ensures.replies
+    (λ reply replies. copies-then d m c.requires.tied one k c.requires.event c.receiver-guest.ensures old here e new reply
+    (subst (λ (own : ℕ → Bool). Replies own d e old new (answer (private_of d old own) one) reply) c.owned_by-here.ensures replies))
 
 pub returns-clause-ran : goal.returns-clause-ran
 returns-clause-ran g c =

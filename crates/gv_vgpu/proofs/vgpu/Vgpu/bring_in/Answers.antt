@@ -1,9 +1,9 @@
-use Rattle.std.proofs.Common.{◌∙◌}
+use Rattle.std.proofs.Common.{◌∙◌, slice_index_or}
 use Rattle.std.proofs.lemmas.Result.{MatchResult-weaker, on_ok_weaker}
-use Rattle.gv_vgpu.specs.Vgpu.{private_of}
+use Rattle.gv_vgpu.specs.Vgpu.{no_engine, private_of}
 use Rattle.gv_vgpu.specs.Owners.{is_here}
 use Rattle.gv_vgpu.proofs.Refused.{load-fetches, refused-image, refused-load, refused-root}
-use Rattle.gv_vgpu.proofs.Registers.{keeps-then}
+use Rattle.gv_vgpu.proofs.Registers.{load-then}
 use Rattle.gv_vgpu.proofs.Steps.{announced-has}
 use Rattle.gv_vgpu.proofs.vgpu.Vgpu.bring_in.Goals as goal
 
@@ -30,7 +30,8 @@ returns-in-Ok-announce-clause-device g c =
 pub returns-in-Ok-announce-clause-keeps : goal.returns-in-Ok-announce-clause-keeps
 returns-in-Ok-announce-clause-keeps g c =
     on_ok_weaker c.fetch_into.result
-    (λ keeps. keeps-then (is_here c.args.here) (g.G.Gpu.state c.args.gpu.now) (g.G.Gpu.state c.announce.new.gpu) (g.G.Gpu.state c.fetch_into.new.gpu) c.args.self.now c.announce.new.self c.fetch_into.new.self c.in-Ok-announce.ensures.keeps keeps)
+    (λ loads. load-then (is_here c.args.here) (g.G.Gpu.state c.args.gpu.now) (g.G.Gpu.state c.announce.new.gpu) (g.G.Gpu.state c.fetch_into.new.gpu) c.args.self.now c.announce.new.self c.fetch_into.new.self
+    (λ k i. (slice_index_or (c.announce.ensures.engines i) k no_engine).element) c.in-Ok-announce.ensures.keeps loads)
     c.fetch_into.ensures.keeps
 
 pub returns-in-Ok-announce-clause-refuses : goal.returns-in-Ok-announce-clause-refuses
