@@ -120,6 +120,7 @@ impl Gtt {
         ensures good { OnOk result (has_bad_entry (memory_of (G.state gpu.new) self.new) (roots_in self.old) ≡ false) }
         ensures bad { IsErrOf result TableFault.BadEntry → has_bad_entry (memory_of (G.state gpu.new) self.new) (roots_in self.old) ≡ true }
         ensures beside { is_guarded (memory_of (G.state gpu.old) self.old) (roots_in self.old) (at / 4096) ≡ false → IsOk result }
+        ensures part { is_guarded (memory_of (G.state gpu.old) self.old) (roots_in self.old) (at / 4096) ≡ false → ChangesOnly (frames_part (number_of self.old)) 1 (G.state gpu.old) (G.state gpu.new) }
         ensures shadow_roots { OnOk result ((root : ℕ) → nodes_in self.new 4 root ≡ nodes_in self.old 4 root) }
         ensures pokes { OnOk result (HaveSameLive (memory_of (G.state gpu.old) self.old) (memory_of (G.state gpu.new) self.new) (roots_in self.old)
             → (G.state gpu.new).pokes ≤ (G.state gpu.old).pokes + (1 + levels_of (memory_of (G.state gpu.old) self.old) (roots_in self.old) (at / 4096))) }

@@ -30,6 +30,7 @@ mod Made
 mod Runs
 mod Dwords
 mod Pairs
+mod Plain
 mod Moves
 mod Images
 mod Steps

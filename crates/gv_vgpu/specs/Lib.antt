@@ -12,6 +12,7 @@ pub mod Pair
 pub mod Loading
 pub mod Turn
 pub mod Access
+pub mod Plain
 pub mod Laws
 pub mod Followed
 pub mod Seen

@@ -1,11 +1,14 @@
 ghost use Rattle.std.specs.Prelude.{◌≡◌, ◌<◌, length, IfOk, IfErr, IsErrOf, OnOk, OnErr};
 ghost use Rattle.gv_types.specs.declared.reply.Answer.{Answer};
 ghost use Rattle.gv_types.specs.declared.reply.Stop.TheVariants.{DeviceFault};
+ghost use Rattle.gv_gpu.specs.Change.{ChangesOnly};
+ghost use Rattle.gv_gpu.specs.Part.{frames_part};
 ghost use Rattle.gv_gtt.specs.Gtt.{frames_of, number_of};
 ghost use Rattle.gv_private.specs.Grants.{move_answer};
 ghost use Rattle.gv_private.specs.Inputs.{answer};
 ghost use Rattle.gv_vgpu.specs.Access.{AccessMayFault, AccessMayLackMemory, AccessMoves, AccessPokes, FrameMoves, IsAccess, Replies};
 ghost use Rattle.gv_vgpu.specs.Changes.{Keeps, Stops, replied};
+ghost use Rattle.gv_vgpu.specs.Plain.{ChangesAccess, IsPlain, ReadsAlone};
 ghost use Rattle.gv_vgpu.specs.Vgpu.{private_of};
 ghost use Rattle.gv_vgpu.specs.Owners.{is_here};
 ghost use Rattle.gv_vgpu.specs.Standing.{Holds};
@@ -47,6 +50,7 @@ impl Vgpu {
         ensures stops { IfErr result (λ stop. Stops (is_here here) (G.state gpu.old) (G.state gpu.new) self.old stop) }
         ensures moves { IfOk result (λ moved. FrameMoves (G.state gpu.new) self.old self.new frame moved) }
         ensures memory { OnErr result (result ≡ Err Stop.OutOfMemory) }
+        ensures part { OnOk result (ChangesOnly (frames_part (number_of self.old.gtt)) 512 (G.state gpu.old) (G.state gpu.new)) }
     {
         match self.gtt.move_page(gpu, frame) {
             Ok(PageMove::Moved) => Ok(Answer::Moved),
@@ -57,7 +61,9 @@ impl Vgpu {
 
     /// Does a read, a write or a move of the guest's, by the engines that it owns, and replies what the guest's private
     /// device does. `DeviceFault` comes only at a write that resets engines and at one by which the guest fails, and
-    /// `OutOfMemory` only at a move and at a write of a live table or of notify.
+    /// `OutOfMemory` only at a move and at a write of a live table or of notify. A read changes nothing. A move, and a
+    /// write but of a live table, a general register, notify or engine reset, changes the guest's frames and owned
+    /// entries alone.
     pub fn access<G: Gpu>(
         &mut self,
         gpu: &mut G,
@@ -72,6 +78,8 @@ impl Vgpu {
         ensures faults { IsErrOf result Stop.DeviceFault → AccessMayFault (private_of (G.state gpu.old) self.old (is_here here)) event.now }
         ensures lacks { IsErrOf result Stop.OutOfMemory → AccessMayLackMemory (private_of (G.state gpu.old) self.old (is_here here)) event.now }
         ensures moves { IfOk result (λ reply. AccessMoves (G.state gpu.new) self.old self.new event.now reply.answer) }
+        ensures part { OnOk result (IsPlain (private_of (G.state gpu.old) self.old (is_here here)) event.now → ChangesAccess 512 (G.state gpu.old) (G.state gpu.new) self.old) }
+        ensures reads { OnOk result (ReadsAlone (G.state gpu.old) (G.state gpu.new) self.old self.new event.now) }
         ensures pokes { IfOk result (λ reply. AccessPokes (G.state gpu.old) (G.state gpu.new) (private_of (G.state gpu.old) self.old (is_here here)) (private_of (G.state gpu.new) self.new (is_here here)) event.now reply.failsafe) }
     {
         match *event {

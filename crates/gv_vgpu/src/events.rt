@@ -1,5 +1,8 @@
 ghost use Rattle.std.specs.Prelude.{◌≡◌, ℕ, ◌+◌, ◌*◌, ◌%◌, ◌^◌, ◌<◌, Bool, None};
+ghost use Rattle.gv_gpu.specs.Change.{ChangesOnly};
 ghost use Rattle.gv_gpu.specs.Device.{Device};
+ghost use Rattle.gv_gpu.specs.Part.{frames_part};
+ghost use Rattle.gv_gtt.specs.Gtt.{number_of};
 ghost use Rattle.gv_private.specs.Grants.{global_written};
 ghost use Rattle.gv_private.specs.Status.{bit_raised, copied, event_given, in_ring};
 ghost use Rattle.gv_vgpu.specs.Changes.{Keeps, Makes, injected};
@@ -43,6 +46,7 @@ impl Vgpu {
         requires below { at < 2 ^ 32 }
         ensures device { private_of (G.state gpu.new) self.now (is_here here) ≡ global_written (private_of (G.state gpu.old) self.now (is_here here)) at value }
         ensures keeps { Keeps (is_here here) (G.state gpu.old) (G.state gpu.new) self.now self.now }
+        ensures part { ChangesOnly (frames_part (number_of self.now.gtt)) 1 (G.state gpu.old) (G.state gpu.new) }
     {
         self.gtt.write_dword(gpu, at, value);
     }
@@ -61,6 +65,7 @@ impl Vgpu {
         requires within { index < 6 }
         ensures device { private_of (G.state gpu.new) self.now (is_here here) ≡ copied (private_of (G.state gpu.old) self.now (is_here here)) engine.0 index status }
         ensures keeps { Keeps (is_here here) (G.state gpu.old) (G.state gpu.new) self.now self.now }
+        ensures part { ChangesOnly (frames_part (number_of self.now.gtt)) 3 (G.state gpu.old) (G.state gpu.new) }
     {
         let page = u64::from(self.mmio.status_page(engine)) * PAGE_BYTES;
         let pair = 2 * u64::from(index);
@@ -80,7 +85,8 @@ impl Vgpu {
     ) -> Option<u32>
         requires holds { Holds (G.state gpu.old) self.old (is_here here) }
         requires engine { engine.0 < 4 }
-        ensures { Makes (is_here here) (G.state gpu.old) (G.state gpu.new) self.old self.new (event_given (private_of (G.state gpu.old) self.old (is_here here)) engine.0 status) (injected result) }
+        ensures given { Makes (is_here here) (G.state gpu.old) (G.state gpu.new) self.old self.new (event_given (private_of (G.state gpu.old) self.old (is_here here)) engine.0 status) (injected result) }
+        ensures part { ChangesOnly (frames_part (number_of self.old.gtt)) 3 (G.state gpu.old) (G.state gpu.new) }
     {
         let index = self.push(engine, status);
         self.copy(gpu, here, engine, index, status);

@@ -2,7 +2,9 @@ ghost use Rattle.std.specs.Prelude.{◌≡◌, ◌+◌, ◌/◌, ◌%◌, ◌≤
 ghost use Rattle.gv_types.specs.Memory.{bytes_of, all_ones, memory_write};
 ghost use Rattle.gv_entry.specs.Tables.{has_bad_entry, is_guarded};
 ghost use Rattle.gv_gtt.specs.Changes.{HaveSameLive};
-ghost use Rattle.gv_gtt.specs.Gtt.{levels_of, memory_of, roots_in};
+ghost use Rattle.gv_gpu.specs.Change.{ChangesOnly};
+ghost use Rattle.gv_gpu.specs.Part.{frames_part};
+ghost use Rattle.gv_gtt.specs.Gtt.{levels_of, memory_of, number_of, roots_in};
 ghost use Rattle.gv_private.specs.Access.{memory_written};
 ghost use Rattle.gv_vgpu.specs.Changes.{Makes, Stops};
 ghost use Rattle.gv_vgpu.specs.Vgpu.{private_of};
@@ -33,6 +35,7 @@ impl Vgpu {
         ensures written { IfOk result (λ notice. Makes (is_here here) (G.state gpu.old) (G.state gpu.new) self.old self.new (memory_written (private_of (G.state gpu.old) self.old (is_here here)) width at value) notice) }
         ensures stops { IfErr result (λ stop. Stops (is_here here) (G.state gpu.old) (G.state gpu.new) self.old stop) }
         ensures beside { is_guarded (memory_of (G.state gpu.old) self.old.gtt) (roots_in self.old.gtt) (at / 4096) ≡ false → IsOk result }
+        ensures part { is_guarded (memory_of (G.state gpu.old) self.old.gtt) (roots_in self.old.gtt) (at / 4096) ≡ false → ChangesOnly (frames_part (number_of self.old.gtt)) 1 (G.state gpu.old) (G.state gpu.new) }
         ensures listed { IsErrOf result Stop.DeviceFault → has_bad_entry (memory_write (memory_of (G.state gpu.old) self.old.gtt) width at value) (roots_in self.old.gtt) ≡ true }
         ensures pokes { IfOk result (λ notice. notice.failsafe ≡ None
             → HaveSameLive (memory_of (G.state gpu.old) self.old.gtt) (memory_of (G.state gpu.new) self.new.gtt) (roots_in self.old.gtt)

@@ -1,11 +1,13 @@
-ghost use Rattle.std.specs.Prelude.{◌≡◌, ◌%◌, ◌<◌, ◌≤◌, ◌⊎◌, false, IfOk, IfErr, IsErrOf, IsSome};
+ghost use Rattle.std.specs.Prelude.{◌≡◌, ◌%◌, ◌<◌, ◌≤◌, ◌⊎◌, false, IfOk, IfErr, IsErrOf, IsSome, OnOk};
 ghost use Rattle.gv_types.specs.Memory.{bytes_of, all_ones};
 ghost use Rattle.gv_types.specs.Places.{end_of};
 ghost use Rattle.gv_private.specs.Access.{dwords_written, range_written, table_at, value_written};
 ghost use Rattle.gv_private.specs.Registers.{dword_written};
 ghost use Rattle.gv_vgpu.specs.Access.{WritePokes};
 ghost use Rattle.gv_vgpu.specs.Changes.{Makes, Stops};
+ghost use Rattle.gv_regs.specs.Table.{target_at};
 ghost use Rattle.gv_vgpu.specs.Pair.{pair_written};
+ghost use Rattle.gv_vgpu.specs.Plain.{ChangesAccess, IsPlainAt, IsPlainTarget, IsPlainWrite};
 ghost use Rattle.gv_vgpu.specs.Listed.{MayFault, MayFaultAt, MayLackMemory, MayLackMemoryAt, ReachesNotify, ReachesReset};
 ghost use Rattle.gv_vgpu.specs.Vgpu.{private_of};
 ghost use Rattle.gv_vgpu.specs.Owners.{is_here};
@@ -34,6 +36,7 @@ impl Vgpu {
         ensures stops { IfErr result (λ stop. Stops (is_here here) (G.state gpu.old) (G.state gpu.new) self.old stop) }
         ensures faults { IsErrOf result Stop.DeviceFault → MayFaultAt (private_of (G.state gpu.old) self.old (is_here here)) offset value }
         ensures lacks { IsErrOf result Stop.OutOfMemory → MayLackMemoryAt offset }
+        ensures part { OnOk result (IsPlainTarget (target_at offset) → ChangesAccess 3 (G.state gpu.old) (G.state gpu.new) self.old) }
     {
         match self.mmio.write(offset, value) {
             Wrote::Done(irq) => Ok(Notice::injected(irq)),
@@ -68,6 +71,7 @@ impl Vgpu {
         ensures stops { IfErr result (λ stop. Stops (is_here here) (G.state gpu.old) (G.state gpu.new) self.old stop) }
         ensures faults { IsErrOf result Stop.DeviceFault → ReachesReset Width.Eight offset ⊎ IsSome (pair_written (private_of (G.state gpu.old) self.old (is_here here)) offset low high).reason }
         ensures lacks { IsErrOf result Stop.OutOfMemory → ReachesNotify Width.Eight offset }
+        ensures part { OnOk result (IsPlainAt Width.Eight offset → ChangesAccess 6 (G.state gpu.old) (G.state gpu.new) self.old) }
     {
         let first = self.write_dword(gpu, here, offset, low)?;
         if self.failsafe {
@@ -94,6 +98,7 @@ impl Vgpu {
         ensures stops { IfErr result (λ stop. Stops (is_here here) (G.state gpu.old) (G.state gpu.new) self.old stop) }
         ensures faults { IsErrOf result Stop.DeviceFault → MayFault (private_of (G.state gpu.old) self.old (is_here here)) Place.Registers width offset value }
         ensures lacks { IsErrOf result Stop.OutOfMemory → MayLackMemory (private_of (G.state gpu.old) self.old (is_here here)) Place.Registers width offset }
+        ensures part { OnOk result (IsPlainAt width offset → ChangesAccess 6 (G.state gpu.old) (G.state gpu.new) self.old) }
     {
         match width {
             Width::Four => self.write_dword(gpu, here, offset, value as u32),
@@ -126,6 +131,7 @@ impl Vgpu {
         ensures stops { IfErr result (λ stop. Stops (is_here here) (G.state gpu.old) (G.state gpu.new) self.old stop) }
         ensures faults { IsErrOf result Stop.DeviceFault → MayFault (private_of (G.state gpu.old) self.old (is_here here)) Place.Registers width offset value }
         ensures lacks { IsErrOf result Stop.OutOfMemory → MayLackMemory (private_of (G.state gpu.old) self.old (is_here here)) Place.Registers width offset }
+        ensures part { OnOk result (IsPlainAt width offset → ChangesAccess 6 (G.state gpu.old) (G.state gpu.new) self.old) }
     {
         if offset < TABLE_AT {
             self.write_dwords(gpu, here, width, offset as u32, value)
@@ -154,6 +160,7 @@ impl Vgpu {
         ensures stops { IfErr result (λ stop. Stops (is_here here) (G.state gpu.old) (G.state gpu.new) self.old stop) }
         ensures faults { IsErrOf result Stop.DeviceFault → MayFault (private_of (G.state gpu.old) self.old (is_here here)) place width at value }
         ensures lacks { IsErrOf result Stop.OutOfMemory → MayLackMemory (private_of (G.state gpu.old) self.old (is_here here)) place width at }
+        ensures part { OnOk result (IsPlainWrite (private_of (G.state gpu.old) self.old (is_here here)) place width at → ChangesAccess 6 (G.state gpu.old) (G.state gpu.new) self.old) }
         ensures pokes { IfOk result (λ notice. WritePokes (G.state gpu.old) (G.state gpu.new) (private_of (G.state gpu.old) self.old (is_here here)) (private_of (G.state gpu.new) self.new (is_here here)) place at notice.failsafe) }
     {
         match place {

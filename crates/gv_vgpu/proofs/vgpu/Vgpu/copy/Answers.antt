@@ -1,4 +1,5 @@
 use Rattle.std.proofs.Common.{◌≡◌, ◌∙◌, ◌+◌, ◌*◌}
+use Rattle.gv_gpu.proofs.Changes.{changes-then}
 use Rattle.gv_private.specs.Device.{PrivateDevice}
 use Rattle.gv_private.specs.Grants.{global_written}
 use Rattle.gv_private.specs.Status.{status_page}
@@ -24,3 +25,6 @@ returns-clause-keeps g c =
     keeps-then here d (g.G.Gpu.state c.write_global-2.new.gpu) (g.G.Gpu.state c.write_global-3.new.gpu) v v v
     (keeps-then here d (g.G.Gpu.state c.write_global.new.gpu) (g.G.Gpu.state c.write_global-2.new.gpu) v v v c.write_global.ensures.keeps c.write_global-2.ensures.keeps)
     c.write_global-3.ensures.keeps
+
+pub returns-clause-part : goal.returns-clause-part
+returns-clause-part g c = changes-then (changes-then c.write_global.ensures.part c.write_global-2.ensures.part) c.write_global-3.ensures.part

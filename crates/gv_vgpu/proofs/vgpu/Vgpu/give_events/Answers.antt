@@ -17,8 +17,8 @@ returns-in-Some g c =
     let one = c.give_event-first.new.self in
     let new = c.give_event-second.new.self in
     let engine = c.args.engine.0 in
-    let first = c.give_event-first.ensures in
-    let second = c.give_event-second.ensures in
+    let first = c.give_event-first.ensures.given in
+    let second = c.give_event-second.ensures.given in
     record {
       written =
           (λ i. events_given (private_of d old here) engine (c.args.events.first ∷ option_to_list (c.in-Some.is i)))

@@ -1,4 +1,4 @@
-use Rattle.std.proofs.Common.{◌≡◌, None, inr, is_some, refl, sym, ◌∙◌, subst, true}
+use Rattle.std.proofs.Common.{◌≡◌, arith, None, inr, is_some, refl, sym, ◌∙◌, subst, true}
 use Rattle.std.specs.Prelude.{IfOk}
 use Rattle.gv_regs.specs.declared.effect.Target.TheVariants.{General, Notify}
 use Rattle.gv_private.specs.Device.{quietly}
@@ -6,11 +6,13 @@ use Rattle.gv_private.specs.Registers.{general_written}
 use Rattle.gv_private.specs.Roots.{notify_written}
 use Rattle.gv_private.specs.Status.{event_given}
 use Rattle.gv_vgpu.specs.Changes.{Makes, injected}
+use Rattle.gv_vgpu.specs.Plain.{IsPlainTarget}
 use Rattle.gv_vgpu.specs.Vgpu.{private_of}
 use Rattle.gv_vgpu.specs.Owners.{is_here}
 use Rattle.gv_vgpu.specs.declared.vgpu.Vgpu.{Vgpu}
 use Rattle.gv_vgpu.proofs.Dwords.{by-target, dword-done, dword-resets, dword-starts, holds-but, keeps-from, makes-from, moved-holds, starts-runs, stays-here, stays-runs}
 use Rattle.gv_vgpu.proofs.Made.{makes-done}
+use Rattle.gv_vgpu.proofs.Plain.{access-frames, access-none, ok-anyway}
 use Rattle.gv_vgpu.proofs.Stopping.{if-ok, on-ok}
 use Rattle.gv_vgpu.proofs.vgpu.Vgpu.write_dword.Goals as goal
 
@@ -119,5 +121,21 @@ returns-in-Starts-clause-written g c =
     let wrote = c.in-Starts.ensures.wrote in
     dword-starts d old new here c.requires.holds refl refl refl c.write.ensures.same c.args.offset c.args.value wrote.0 c.in-Starts.engine.0 wrote.2
     e c.give_event-irq.new.self c.give_event-irq.result c.injected-in-Starts.result
-    (subst (λ status. Makes here d e new c.give_event-irq.new.self (event_given (private_of d new here) c.in-Starts.engine.0 status) (injected c.give_event-irq.result)) c.idle_to_active.ensures c.give_event-irq.ensures)
+    (subst (λ status. Makes here d e new c.give_event-irq.new.self (event_given (private_of d new here) c.in-Starts.engine.0 status) (injected c.give_event-irq.result)) c.idle_to_active.ensures c.give_event-irq.ensures.given)
     c.injected-in-Starts.ensures
+
+pub returns-in-Done-clause-part : goal.returns-in-Done-clause-part
+returns-in-Done-clause-part g c = λ plain. access-none 3 (g.G.Gpu.state c.args.gpu.now) c.args.self.now
+
+pub returns-in-General-clause-part : goal.returns-in-General-clause-part
+returns-in-General-clause-part g c = λ plain. absurd (subst IsPlainTarget c.in-General.ensures.wrote.0 plain)
+
+pub returns-in_ok-or_stop-in-Engines-clause-part : goal.returns-in_ok-or_stop-in-Engines-clause-part
+returns-in_ok-or_stop-in-Engines-clause-part g c = λ plain. absurd (subst IsPlainTarget c.in-Engines.ensures.wrote.0 plain)
+
+pub returns-in-Notify-clause-part : goal.returns-in-Notify-clause-part
+returns-in-Notify-clause-part g c = ok-anyway c.notify.result _ (λ plain. absurd (subst IsPlainTarget c.in-Notify.ensures.wrote.0 plain))
+
+pub returns-in-Starts-clause-part : goal.returns-in-Starts-clause-part
+returns-in-Starts-clause-part g c = λ plain.
+    access-frames 3 3 (g.G.Gpu.state c.args.gpu.now) (g.G.Gpu.state c.give_event-irq.new.gpu) c.args.self.now (omega arith) c.give_event-irq.ensures.part

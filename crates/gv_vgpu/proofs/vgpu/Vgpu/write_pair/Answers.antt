@@ -1,9 +1,11 @@
-use Rattle.std.proofs.Common.{◌+◌}
+use Rattle.std.proofs.Common.{◌+◌, arith}
+use Rattle.gv_gpu.proofs.Changes.{changes-more}
 use Rattle.std.proofs.lemmas.Result.{err_from_is_err_and}
 use Rattle.gv_private.specs.Registers.{dword_written}
 use Rattle.gv_vgpu.specs.Vgpu.{private_of}
 use Rattle.gv_vgpu.specs.Owners.{is_here}
 use Rattle.gv_vgpu.proofs.Failing.{stops-then}
+use Rattle.gv_vgpu.proofs.Plain.{access-then}
 use Rattle.gv_vgpu.proofs.Pairs.{both, faults-first, faults-second, first-alone}
 use Rattle.gv_vgpu.proofs.vgpu.Vgpu.write_pair.Goals as goal
 
@@ -39,3 +41,12 @@ returns-clause-written g c =
     let here = is_here c.args.here in
     both here d (g.G.Gpu.state c.write_dword.new.gpu) old c.write_dword.new.self (dword_written (private_of d old here) c.args.offset c.args.low) (λ q. dword_written q (c.args.offset + 4) c.args.high)
     c.in_ok-first.first c.in_ok-first.ensures.written (g.G.Gpu.state c.write_dword-2.new.gpu) c.write_dword-2.new.self c.in_ok-second.second c.then.result c.if-self.false c.in_ok-second.ensures.written c.then.ensures.irq c.then.ensures.failsafe
+
+pub returns-then-self-clause-part : goal.returns-then-self-clause-part
+returns-then-self-clause-part g c = λ plain. changes-more 6 (omega arith) (c.in_ok-first.ensures.part plain.0)
+
+pub returns-clause-part : goal.returns-clause-part
+returns-clause-part g c = λ plain.
+    let keeps = c.in_ok-first.ensures.written.keeps in
+    access-then 3 3 (g.G.Gpu.state c.args.gpu.now) (g.G.Gpu.state c.write_dword.new.gpu) (g.G.Gpu.state c.write_dword-2.new.gpu) c.args.self.now c.write_dword.new.self keeps.number keeps.ranges
+    (c.in_ok-first.ensures.part plain.0) (c.in_ok-second.ensures.part plain.1)
