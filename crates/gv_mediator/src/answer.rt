@@ -94,6 +94,7 @@ impl Mediator {
         ensures ran { OnOk result (Ran (G.state gpu.old) (G.state gpu.new) (entries_ran (event_done (machine_of (G.state gpu.old) self.old) event.now).came)) }
         ensures stopped { OnErr result (Ran (G.state gpu.old) (G.state gpu.new) []) }
         ensures cause { IsErrOf result Stop.DeviceFault → counted (G.state gpu.old).faults ≤ (G.state gpu.new).faults }
+        ensures memory { IsErrOf result Stop.OutOfMemory → (G.state gpu.new).faults ≡ (G.state gpu.old).faults }
         ensures faults { IsErrOf result Stop.DeviceFault → EventMayFault (machine_of (G.state gpu.old) self.old) event.now }
         ensures lacks { IsErrOf result Stop.OutOfMemory → EventMayLackMemory (G.state gpu.old) (machine_of (G.state gpu.old) self.old) event.now }
         ensures once { IfOk result (λ reply. AnswersOnce (G.state gpu.old) (G.state gpu.new) event.now reply.answer) }
@@ -117,6 +118,7 @@ impl Mediator {
         ensures ran { OnOk result (Ran (G.state gpu.old) (G.state gpu.new) (entries_ran (event_done (machine_of (G.state gpu.old) self.old) event.now).came)) }
         ensures stopped { OnErr result (Ran (G.state gpu.old) (G.state gpu.new) []) }
         ensures cause { IsErrOf result Stop.DeviceFault → counted (G.state gpu.old).faults ≤ (G.state gpu.new).faults }
+        ensures memory { IsErrOf result Stop.OutOfMemory → (G.state gpu.new).faults ≡ (G.state gpu.old).faults }
         ensures faults { IsErrOf result Stop.DeviceFault → EventMayFault (machine_of (G.state gpu.old) self.old) event.now }
         ensures lacks { IsErrOf result Stop.OutOfMemory → EventMayLackMemory (G.state gpu.old) (machine_of (G.state gpu.old) self.old) event.now }
         ensures stays { KeepsOwner (machine_of (G.state gpu.old) self.old) event.now → G.state gpu.new ≡ G.state gpu.old }
@@ -137,7 +139,7 @@ impl Mediator {
     /// One event: the reply is that of the machine, which is as after the event then. After a `Stop` no further event is
     /// taken. `DeviceFault` comes only at a turn that isn't idle, at a reset, at an access at which the guest's device may fault, and at a
     /// switch by which the owner changes; `OutOfMemory` only at a turn that isn't idle, at a move, and at a write of a live table or of
-    /// notify.
+    /// notify, and where no fault was counted.
     pub fn event<G: Gpu>(
         &mut self,
         alloc: Global,
@@ -154,6 +156,7 @@ impl Mediator {
         ensures stopped { OnErr result (Ran (G.state gpu.old) (G.state gpu.new) []) }
         ensures stops { self.new.stopped ≡ is_err result }
         ensures cause { IsErrOf result Stop.DeviceFault → counted (G.state gpu.old).faults ≤ (G.state gpu.new).faults }
+        ensures memory { IsErrOf result Stop.OutOfMemory → (G.state gpu.new).faults ≡ (G.state gpu.old).faults }
         ensures faults { IsErrOf result Stop.DeviceFault → EventMayFault (machine_of (G.state gpu.old) self.old) event.now }
         ensures lacks { IsErrOf result Stop.OutOfMemory → EventMayLackMemory (G.state gpu.old) (machine_of (G.state gpu.old) self.old) event.now }
         ensures stays { KeepsOwner (machine_of (G.state gpu.old) self.old) event.now → G.state gpu.new ≡ G.state gpu.old }

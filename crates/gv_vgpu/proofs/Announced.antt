@@ -83,6 +83,7 @@ lacks-memory here d e old same =
     record {
       outside = same ∙ (λ i. with_faults (outside (guest_part (number_of old.gtt) (ranges_of old.gtt) here) d) (faults i));
       cause = λ (is : OutOfMemory ≡ DeviceFault). absurd cc;
+      memory = λ is. sym faults;
     }
 
 module _ (d e : Device) (old new : Vgpu) (here : ℕ → Bool) (holds : Holds d old here) (changes : Changes d e old.gtt new.gtt) (registers : new.mmio ≡ old.mmio) (engines : new.engines ≡ old.engines) (failsafe : new.failsafe ≡ old.failsafe) (root : ℕ) where

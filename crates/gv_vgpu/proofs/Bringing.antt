@@ -15,7 +15,7 @@ use Rattle.gv_mmio.specs.Mmio.{guest_of}
 use Rattle.gv_sctx.proofs.Saving.{submitted-context}
 use Rattle.gv_sring.specs.Window.{descriptor_at, page_at}
 use Rattle.gv_switch.specs.Exchange.{brought, with_registers}
-use Rattle.gv_types.specs.declared.reply.Stop.TheVariants.{DeviceFault}
+use Rattle.gv_types.specs.declared.reply.Stop.TheVariants.{DeviceFault, OutOfMemory}
 use Rattle.gv_vgpu.specs.Changes.{Stops}
 use Rattle.gv_vgpu.specs.Exchange.{Exchanges, HasSixteen, owning, shadow_of}
 use Rattle.gv_vgpu.specs.Vgpu.{engine_at}
@@ -133,6 +133,7 @@ bring-fails d e v here engine kept same cause = record {
       (λ i. outside (guest_part (number_of v.gtt) (ranges_of v.gtt) (owning here engine true)) (same i))
       ∙ (λ i. record (outside (guest_part (number_of v.gtt) (ranges_of v.gtt) (owning here engine true)) (with_faults d e.faults)) { general = λ k. lost k (k == engine) refl i });
   cause = λ is. cause;
+  memory = λ (is : DeviceFault ≡ OutOfMemory). absurd cc;
 }
   where
     lost : (k : ℕ) (b : Bool) → (k == engine) ≡ b

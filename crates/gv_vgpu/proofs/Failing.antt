@@ -117,6 +117,7 @@ stopped-then :
 stopped-then here d e f a b stop number ranges first second = record {
   outside = outside-then here (with_faults d f.faults) (with_faults e f.faults) f a b number ranges (λ i. with_faults (first i) f.faults) second.outside;
   cause = λ is. subst (λ faults. counted faults ≤ f.faults) (λ i. (first i).faults) (second.cause is);
+  memory = λ is. second.memory is ∙ (λ i. (first i).faults);
 }
 
 pub stops-then : (here : ℕ → Bool) (d e f : Device) (a b : Vgpu) (stop : Stop) → Keeps here d e a b → Stops here e f b stop → Stops here d f a stop

@@ -6,7 +6,7 @@ use Rattle.std.proofs.lemmas.Option.{none-some}
 use Rattle.gv_types.specs.declared.ids.Label.{Label}
 use Rattle.gv_types.specs.declared.reply.Reason.{Reason}
 use Rattle.gv_types.specs.declared.reply.Stop.{Stop}
-use Rattle.gv_types.specs.declared.reply.Stop.TheVariants.{DeviceFault}
+use Rattle.gv_types.specs.declared.reply.Stop.TheVariants.{DeviceFault, OutOfMemory}
 use Rattle.gv_types.specs.declared.ranges.Ranges.{Ranges}
 use Rattle.gv_ctx.specs.Image.{IsImage}
 use Rattle.gv_ctx.specs.declared.image.Image.{Image}
@@ -402,13 +402,15 @@ module _ (d e : Device) (old : Vgpu) (engines : List Engine) (count : length eng
 
 pub load-stops :
     (here : ℕ → Bool) (d e : Device) (old : Vgpu) (guest engine : ℕ) (stop : Stop) → guest ≡ number_of old.gtt → engine < 4 → here engine ≡ true
-    → outside (element_part guest engine []) e ≡ outside (element_part guest engine []) (with_faults d e.faults) → (stop ≡ DeviceFault → counted d.faults ≤ e.faults) → Stops here d e old stop
-load-stops here d e old guest engine stop same four own unchanged cause = record {
+    → outside (element_part guest engine []) e ≡ outside (element_part guest engine []) (with_faults d e.faults) → (stop ≡ DeviceFault → counted d.faults ≤ e.faults) → (stop ≡ OutOfMemory → e.faults ≡ d.faults)
+    → Stops here d e old stop
+load-stops here d e old guest engine stop same four own unchanged cause memory = record {
   outside =
       subst (λ number. outside (guest_part number (ranges_of old.gtt) here) e ≡ outside (guest_part number (ranges_of old.gtt) here) (with_faults d e.faults)) same
       (outside-widen (element_part guest engine []) (element_part guest engine []) (guest_part guest (ranges_of old.gtt) here) (with_faults d e.faults) e
       (load-within guest engine [] (ranges_of old.gtt) here four own) (load-within guest engine [] (ranges_of old.gtt) here four own) unchanged);
   cause = cause;
+  memory = memory;
 }
 
 -- ---- behind the calls

@@ -8,6 +8,7 @@ use Rattle.gv_gpu.specs.Device.{Device, counted, with_faults}
 use Rattle.gv_gpu.specs.Part.{guest_part, outside}
 use Rattle.gv_gtt.specs.Gtt.{memory_of, number_of, ranges_of}
 use Rattle.gv_types.specs.declared.reply.Stop.{Stop}
+use Rattle.gv_types.specs.declared.reply.Stop.TheVariants.{OutOfMemory}
 use Rattle.gv_private.specs.Registers.{is_named as named_at}
 use Rattle.gv_vgpu.specs.Changes.{Stops, own_live}
 use Rattle.gv_vgpu.specs.Vgpu.{engine_at, element_in}
@@ -93,10 +94,11 @@ reset-more p q here engine d e f a b c four more first one =
 
 -- and one that stopped
 pub reset-stops :
-    (p here : ℕ → Bool) (d e f : Device) (a b : Vgpu) (stop : Stop) → AreReset p here d e a b → f ≡ with_faults e f.faults → counted e.faults ≤ f.faults → Stops here d f a stop
-reset-stops p here d e f a b stop first same cause = record {
+    (p here : ℕ → Bool) (d e f : Device) (a b : Vgpu) (stop : Stop) → AreReset p here d e a b → f ≡ with_faults e f.faults → counted e.faults ≤ f.faults → (stop ≡ OutOfMemory → ⊥) → Stops here d f a stop
+reset-stops p here d e f a b stop first same cause other = record {
   outside = (λ i. outside (guest_part (number_of a.gtt) (ranges_of a.gtt) here) (same i)) ∙ (λ i. with_faults (first.outside i) f.faults);
   cause = λ is. subst (λ faults. counted faults ≤ f.faults) (λ i. (first.outside i).faults) cause;
+  memory = λ is. absurd (other is);
 }
 
 -- ---- which ones

@@ -207,4 +207,4 @@ module _ (d : Device) (room : ℕ) (v : Vgpu) (here : ℕ → Bool) (holds : Hol
       }
 
 pub unmade-stops : (d e : Device) (v : Vgpu) (here : ℕ → Bool) (stop : Stop) → Unmade d e stop → Stops here d e v stop
-unmade-stops d e v here stop unmade = record { outside = λ i. outside (guest_part (number_of v.gtt) (ranges_of v.gtt) here) (unmade.same i); cause = unmade.cause }
+unmade-stops d e v here stop unmade = record { outside = λ i. outside (guest_part (number_of v.gtt) (ranges_of v.gtt) here) (unmade.same i); cause = unmade.cause; memory = unmade.memory }

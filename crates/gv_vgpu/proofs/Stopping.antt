@@ -37,6 +37,7 @@ pub stops-without :
 stops-without here d e old stop same other = record {
   outside = same ∙ (λ i. record (outside (guest_part (number_of old.gtt) (ranges_of old.gtt) here) d) { faults = (sym same i).faults });
   cause = λ is. absurd (other is);
+  memory = λ is i. (same i).faults;
 }
 
 -- what holds of a call, where it answered this

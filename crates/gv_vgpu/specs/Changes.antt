@@ -6,7 +6,7 @@ use Rattle.gv_types.specs.declared.reply.Answer.{Answer}
 use Rattle.gv_types.specs.declared.reply.Outcome.{Outcome}
 use Rattle.gv_types.specs.declared.reply.Reply.{Reply}
 use Rattle.gv_types.specs.declared.reply.Stop.{Stop}
-use Rattle.gv_types.specs.declared.reply.Stop.TheVariants.{DeviceFault}
+use Rattle.gv_types.specs.declared.reply.Stop.TheVariants.{DeviceFault, OutOfMemory}
 use Rattle.gv_element.specs.Works.{Held}
 use Rattle.gv_gpu.specs.Device.{Device, JournalEntry, counted, with_faults}
 use Rattle.gv_gpu.specs.Part.{outside, guest_part}
@@ -85,10 +85,11 @@ abbrev pub replied : GuestId → Answer → Notice → Reply
 replied guest answer notice = record { guest = guest; answer = answer; irq = notice.irq; failsafe = notice.failsafe }
 
 -- After a call that stopped, nothing changed but the guest's own part and faults. It stops by a fault only where one
--- was counted.
+-- was counted, and for want of memory only where none was.
 pub record Stops (here : ℕ → Bool) (d e : Device) (old : Vgpu) (stop : Stop) : Type 0 where
   pub outside : outside (guest_part (number_of old.gtt) (ranges_of old.gtt) here) e ≡ outside (guest_part (number_of old.gtt) (ranges_of old.gtt) here) (with_faults d e.faults)
   pub cause : stop ≡ DeviceFault → counted d.faults ≤ e.faults
+  pub memory : stop ≡ OutOfMemory → e.faults ≡ d.faults
 
 -- ---- a turn
 

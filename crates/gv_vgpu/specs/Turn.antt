@@ -13,7 +13,7 @@ use Rattle.gv_private.specs.Turn.{finished}
 use Rattle.gv_types.specs.declared.reply.Outcome.{Outcome}
 use Rattle.gv_types.specs.declared.reply.Outcome.TheVariants.{Ran, Waited}
 use Rattle.gv_types.specs.declared.reply.Stop.{Stop}
-use Rattle.gv_types.specs.declared.reply.Stop.TheVariants.{DeviceFault}
+use Rattle.gv_types.specs.declared.reply.Stop.TheVariants.{DeviceFault, OutOfMemory}
 use Rattle.gv_vgpu.specs.Changes.{Keeps, Makes}
 use Rattle.gv_vgpu.specs.Vgpu.{engine_at, private_of, working_in}
 use Rattle.gv_vgpu.specs.Standing.{Holds}
@@ -64,6 +64,7 @@ pub record Unmade (d e : Device) (stop : Stop) : Type 0 where
   pub room : ℕ
   pub same : e ≡ with_faults (with_spare d room) e.faults
   pub cause : stop ≡ DeviceFault → counted d.faults ≤ e.faults
+  pub memory : stop ≡ OutOfMemory → e.faults ≡ d.faults
 
 -- The device made one step of an engine, with as much room in its journal as was made before, and did nothing else.
 abbrev pub IsOneStep : Device → Device → ℕ → Type 0

@@ -39,8 +39,10 @@ pub returns-in-Err-OutOfMemory-clause-stops : goal.returns-in-Err-OutOfMemory-cl
 returns-in-Err-OutOfMemory-clause-stops g c =
     load-stops (is_here c.args.here) (g.G.Gpu.state c.args.gpu.now) (g.G.Gpu.state c.load.new.gpu) c.args.self.now c.guest-guest.result.0 c.args.engine.0 OutOfMemory (c.guest-guest.ensures ∙ c.requires.holds.number)
     c.requires.engine c.requires.own c.in-Err-OutOfMemory.ensures.unchanged (λ (is : OutOfMemory ≡ DeviceFault). absurd cc)
+    (λ is. c.in-Err-OutOfMemory.ensures.memory (λ i. Err (c.in-Err-OutOfMemory.field-0-is i)))
 
 pub returns-in-Err-GpuFailed-clause-stops : goal.returns-in-Err-GpuFailed-clause-stops
 returns-in-Err-GpuFailed-clause-stops g c =
     load-stops (is_here c.args.here) (g.G.Gpu.state c.args.gpu.now) (g.G.Gpu.state c.load.new.gpu) c.args.self.now c.guest-guest.result.0 c.args.engine.0 DeviceFault (c.guest-guest.ensures ∙ c.requires.holds.number)
     c.requires.engine c.requires.own c.in-Err-GpuFailed.ensures.unchanged (λ is. c.in-Err-GpuFailed.ensures.cause (λ i. Err (c.in-Err-GpuFailed.field-0-is i)))
+    (λ (is : DeviceFault ≡ OutOfMemory). absurd cc)

@@ -19,7 +19,7 @@ pub returns-in_err-reset_engine-clause-faults : goal.returns-in_err-reset_engine
 returns-in_err-reset_engine-clause-faults g c =
     on-err c.from_residual.result
     (reset-stops (are_named_below c.args.named c.loop-engine.engine) (is_here c.args.here) (g.G.Gpu.state c.args.gpu.now) (g.G.Gpu.state c.loop-engine.gpu) (g.G.Gpu.state c.reset_engine.new.gpu) c.args.self.now c.loop-engine.self DeviceFault
-    c.loop-engine.invariant c.in_err-reset_engine.ensures.err c.in_err-reset_engine.ensures.cause)
+    c.loop-engine.invariant c.in_err-reset_engine.ensures.err c.in_err-reset_engine.ensures.cause (λ is. cc))
 
 pub loop-engine-preserved : goal.loop-engine-preserved
 loop-engine-preserved g c =
