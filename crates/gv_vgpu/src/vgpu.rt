@@ -111,7 +111,7 @@ impl Vgpu {
 
     /// The guest's frames, with the host page of each.
     pub fn memory(&self) -> &Memory
-        ensures { result.now ≡ frames_of self.now.gtt }
+        ensures { result.now.frames ≡ frames_of self.now.gtt }
     {
         self.gtt.memory()
     }
