@@ -32,7 +32,7 @@ EventMayFault m one = ReceiverMayFault m one (event_receiver m.owners one)
 -- ---- want of memory
 
 -- of a guest's device: a turn that isn't idle, and one of an element at work only where the journal has no room for an
--- entry; and an access that may lack memory, a move among them
+-- entry; and an access that may lack memory, as a move that isn't kept
 abbrev pub DeviceMayLackMemory : Device → PrivateDevice → Event → Type 0
 DeviceMayLackMemory d p (Turn engine) = ((turned p engine.0).outcome ≢ Idle) × (IsSome (p.engines engine.0).element → d.spare ≡ 0)
 DeviceMayLackMemory d p one = AccessMayLackMemory p one

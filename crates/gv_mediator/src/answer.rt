@@ -138,8 +138,8 @@ impl Mediator {
 
     /// One event: the reply is that of the machine, which is as after the event then. After a `Stop` no further event is
     /// taken. `DeviceFault` comes only at a turn that isn't idle, at a reset, at an access at which the guest's device may fault, and at a
-    /// switch by which the owner changes; `OutOfMemory` only at a turn that isn't idle, at a move, and at a write of a live table or of
-    /// notify, and where no fault was counted.
+    /// switch by which the owner changes; `OutOfMemory` only at a turn that isn't idle, at a move that isn't kept, and at a write of a live
+    /// table or of notify, and where no fault was counted.
     pub fn event<G: Gpu>(
         &mut self,
         alloc: Global,

@@ -15,6 +15,7 @@ use Rattle.gv_gtt.specs.Changes.{HaveSameLive}
 use Rattle.gv_gtt.specs.Gtt.{frames_of, levels_of}
 use Rattle.gv_guest.specs.Move.{MovesFrame}
 use Rattle.gv_private.specs.Device.{PrivateDevice}
+use Rattle.gv_private.specs.Grants.{move_answer}
 use Rattle.gv_private.specs.Inputs.{Answered}
 use Rattle.gv_vgpu.specs.Changes.{MayLoad, journalled}
 use Rattle.gv_vgpu.specs.Listed.{MayFault, MayLackMemory}
@@ -41,10 +42,10 @@ abbrev pub AccessMayFault : PrivateDevice → Event → Type 0
 AccessMayFault p (Write guest place width at value) = MayFault p place width at value
 AccessMayFault p event = ⊥
 
--- a move takes a page for the frame
+-- a move that isn't kept takes a page for the frame
 abbrev pub AccessMayLackMemory : PrivateDevice → Event → Type 0
 AccessMayLackMemory p (Write guest place width at value) = MayLackMemory p place width at
-AccessMayLackMemory p (Move guest frame) = ⊤
+AccessMayLackMemory p (Move guest frame) = move_answer p frame ≡ answers.Moved
 AccessMayLackMemory p event = ⊥
 
 -- ---- moves

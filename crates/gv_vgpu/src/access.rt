@@ -50,6 +50,7 @@ impl Vgpu {
         ensures stops { IfErr result (λ stop. Stops (is_here here) (G.state gpu.old) (G.state gpu.new) self.old stop) }
         ensures moves { IfOk result (λ moved. FrameMoves (G.state gpu.new) self.old self.new frame moved) }
         ensures memory { OnErr result (result ≡ Err Stop.OutOfMemory) }
+        ensures lacks { OnErr result (move_answer (private_of (G.state gpu.old) self.old (is_here here)) frame ≡ Answer.Moved) }
         ensures part { OnOk result (ChangesOnly (frames_part (number_of self.old.gtt)) 512 (G.state gpu.old) (G.state gpu.new)) }
     {
         match self.gtt.move_page(gpu, frame) {
@@ -61,7 +62,7 @@ impl Vgpu {
 
     /// Does a read, a write or a move of the guest's, by the engines that it owns, and replies what the guest's private
     /// device does. `DeviceFault` comes only at a write that resets engines and at one by which the guest fails, and
-    /// `OutOfMemory` only at a move and at a write of a live table or of notify. A read changes nothing. A move, and a
+    /// `OutOfMemory` only at a move that isn't kept and at a write of a live table or of notify. A read changes nothing. A move, and a
     /// write but of a live table, a general register, notify or engine reset, changes the guest's frames and owned
     /// entries alone.
     pub fn access<G: Gpu>(

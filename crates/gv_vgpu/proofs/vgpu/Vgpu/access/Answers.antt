@@ -1,7 +1,7 @@
 use Rattle.std.proofs.Common.{arith, refl, sym, ◌∙◌, subst}
 use Rattle.std.proofs.lemmas.Result.{err_from_is_err_and}
 use Rattle.gv_types.specs.declared.reply.Stop.TheVariants.{DeviceFault}
-use Rattle.gv_vgpu.specs.Access.{AccessMayFault}
+use Rattle.gv_vgpu.specs.Access.{AccessMayFault, AccessMayLackMemory}
 use Rattle.gv_vgpu.specs.Changes.{replied}
 use Rattle.gv_gpu.proofs.Changes.{changes-more}
 use Rattle.gv_vgpu.specs.Plain.{IsPlain, ReadsAlone}
@@ -45,3 +45,8 @@ returns-in_ok-notice-in-Write-clause-reads g c =
 pub returns-in_ok-answer-in-Move-clause-reads : goal.returns-in_ok-answer-in-Move-clause-reads
 returns-in_ok-answer-in-Move-clause-reads g c =
     subst (λ event. ReadsAlone (g.G.Gpu.state c.args.gpu.now) (g.G.Gpu.state c.move_page.new.gpu) c.args.self.now c.move_page.new.self event) (sym c.in-Move.is) tt
+
+pub returns-in_err-answer-in-Move-clause-lacks : goal.returns-in_err-answer-in-Move-clause-lacks
+returns-in_err-answer-in-Move-clause-lacks g c =
+    let p = err_from_is_err_and c.from_residual-in_err-answer-in-Move.result c.from_residual-in_err-answer-in-Move.ensures.1 in rw (p.1, p.2)
+    (λ lack. subst (λ event. AccessMayLackMemory (private_of (g.G.Gpu.state c.args.gpu.now) c.args.self.now (is_here c.args.here)) event) (sym c.in-Move.is) c.in_err-answer-in-Move.ensures.lacks)

@@ -61,3 +61,12 @@ returns-in-Err-clause-stops g c =
     let old = c.args.self.now in
     stops-without (is_here c.args.here) d e old Stop.OutOfMemory
     (changes_stay_inside d e old.gtt old.gtt (is_here c.args.here) (frames-changes 512 d e old.gtt c.move_page.ensures.changes)) (λ is. cc)
+
+pub returns-in-Err-clause-lacks : goal.returns-in-Err-clause-lacks
+returns-in-Err-clause-lacks g c =
+    let p = private_of (g.G.Gpu.state c.args.gpu.now) c.args.self.now (is_here c.args.here) in
+    sym (unless-kept p c.args.frame
+    (λ kept.
+    let failed = c.in-Err.field-0-is in
+    let same = (c.in-Err.ensures.kept p).1 ((λ i. move_answer (over-private (g.G.Gpu.state c.args.gpu.now) c.args.self.now (is_here c.args.here) c.requires.holds i) c.args.frame) ∙ kept) in
+    cc))
