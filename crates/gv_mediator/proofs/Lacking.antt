@@ -1,5 +1,5 @@
 -- Turns that lack memory.
-use Rattle.std.proofs.Common.{◌≡◌, ◌≢◌, ℕ, Bool, Option, None, Some, Result, Err, refl}
+use Rattle.std.proofs.Common.{◌≡◌, ◌≢◌, ℕ, Bool, Option, None, Some, refl}
 use Rattle.std.specs.Prelude.{IsSome}
 use Rattle.gv_types.specs.declared.event.Event.TheVariants.{Turn}
 use Rattle.gv_types.specs.declared.ids.EngineId.{EngineId}
@@ -11,10 +11,6 @@ use Rattle.gv_private.specs.Turn.{turned}
 use Rattle.gv_vgpu.specs.Vgpu.{element_in, engine_at, private_of}
 use Rattle.gv_vgpu.specs.declared.vgpu.Vgpu.{Vgpu}
 use Rattle.gv_mediator.specs.Listed.{DeviceMayLackMemory}
-
--- an error of another call
-pub err-again : {T U E : Type 0} (x y : E) → ◌≡◌ {A = Result T E} (Err x) (Err y) → ◌≡◌ {A = Result U E} (Err x) (Err y)
-err-again x y same = let is : x ≡ y = cc in λ i. Err (is i)
 
 some-in : (d : Device) (guest engine : ℕ) (here : Bool) (o : Option Held) → IsSome (element_in d guest engine here o) → IsSome o
 some-in d guest engine here None is = is

@@ -23,7 +23,7 @@ pub mod Kept
 pub mod Written
 pub mod Registers
 pub mod General
-mod Stopping
+pub mod Stopping
 mod Words
 mod Roots
 mod Made

@@ -4,7 +4,8 @@ use Rattle.gv_types.specs.declared.reply.Stop.TheVariants.{OutOfMemory}
 use Rattle.gv_vgpu.specs.Vgpu.{private_of}
 use Rattle.gv_vgpu.specs.Owners.{is_here}
 use Rattle.gv_mediator.specs.Listed.{DeviceMayLackMemory}
-use Rattle.gv_mediator.proofs.Lacking.{err-again, turn-lacks}
+use Rattle.gv_vgpu.proofs.Stopping.{err-again}
+use Rattle.gv_mediator.proofs.Lacking.{turn-lacks}
 use Rattle.gv_mediator.proofs.answer.answer.Goals as goal
 
 pub returns-in_err-turned-in-Turn-clause-lacks : goal.returns-in_err-turned-in-Turn-clause-lacks
