@@ -67,6 +67,6 @@ returns-in-Err-clause-lacks g c =
     let p = private_of (g.G.Gpu.state c.args.gpu.now) c.args.self.now (is_here c.args.here) in
     sym (unless-kept p c.args.frame
     (λ kept.
-    let failed = c.in-Err.field-0-is in
+    let failed = c.in-Err.is in
     let same = (c.in-Err.ensures.kept p).1 ((λ i. move_answer (over-private (g.G.Gpu.state c.args.gpu.now) c.args.self.now (is_here c.args.here) c.requires.holds i) c.args.frame) ∙ kept) in
     cc))
