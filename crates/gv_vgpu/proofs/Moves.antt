@@ -2,10 +2,12 @@
 use Rattle.std.proofs.Common.{◌≡◌, ◌≢◌, ℕ, ◌+◌, ◌%◌, ◌<◌, ◌&&◌, ◌||◌, Bool, true, false, Option, None, Some, List, length, slice_index_or, if◌then◌else◌, refl, sym, ◌∙◌, subst}
 use Rattle.std.proofs.lemmas.List.{append-nil, length-map}
 use Rattle.gv_types.specs.declared.event.Event.{Event}
-use Rattle.gv_types.specs.declared.event.Event.TheVariants.{Move}
+use Rattle.gv_types.specs.declared.event.Event.TheVariants.{Move, Write}
+use Rattle.gv_types.specs.declared.event.Place.{Place}
+use Rattle.gv_types.specs.declared.event.Width.{Width}
 use Rattle.gv_types.specs.declared.ids.GuestId.{GuestId}
 use Rattle.gv_types.specs.declared.reply.Answer.{Answer}
-use Rattle.gv_types.specs.declared.reply.Answer.TheVariants.{Kept, Moved}
+use Rattle.gv_types.specs.declared.reply.Answer.TheVariants.{Kept, Moved, Nothing}
 use Rattle.gv_types.specs.declared.reply.Reply.{Reply}
 use Rattle.gv_element.specs.Works.{Held, HasNoPage, WorksWith, left_of}
 use Rattle.gv_entry.specs.Grants.{is_mapped}
@@ -22,15 +24,17 @@ use Rattle.gv_gtt.proofs.Steps.{frames-changes}
 use Rattle.gv_mmio.specs.Mmio.{behind, guest_of, ports_at, ranges_of as mmio_ranges}
 use Rattle.gv_private.specs.Device.{PrivateDevice, new_device, reset_engine}
 use Rattle.gv_private.specs.Grants.{is_granted, move_answer}
-use Rattle.gv_private.specs.Inputs.{answer}
+use Rattle.gv_private.specs.Access.{value_written}
+use Rattle.gv_private.specs.Inputs.{answer, reply_of}
 use Rattle.gv_sppgtt.specs.Grown.{count_of}
 use Rattle.gv_sppgtt.proofs.OwnPages.{own-same}
 use Rattle.gv_sring.specs.Window.{Window, WindowIsAbsent, page_at}
 use Rattle.gv_turn.specs.Owned.{OwnsLeft}
-use Rattle.gv_vgpu.specs.Changes.{Keeps, MayLoad, held_on, injected, journalled, own_live, replied, window_pages}
+use Rattle.gv_vgpu.specs.Changes.{Keeps, Makes, MayLoad, held_on, injected, journalled, own_live, replied, window_pages}
 use Rattle.gv_vgpu.specs.Access.{Replies}
 use Rattle.gv_vgpu.specs.Vgpu.{element_in, engine_at, engine_in, engines_of, general_in, no_engine, private_of}
 use Rattle.gv_vgpu.specs.Standing.{Holds, StandsAtWork, StandsOn}
+use Rattle.gv_vgpu.specs.declared.notice.Notice.{Notice}
 use Rattle.gv_vgpu.specs.declared.vgpu.Vgpu.{Vgpu}
 use Rattle.gv_vgpu.proofs.Copies.{comes-tables, may-load}
 use Rattle.gv_vgpu.proofs.Engines.{each-engine}
@@ -162,4 +166,15 @@ move-replies here d e old new event guest frame kept reply is same left keeps to
   left = (λ i. (answer (private_of d old here) (is i)).left) ∙ sym left;
   keeps = subst (λ ran. MayLoad here (journalled d ran) e old new) (λ i. (answer (private_of d old here) (sym is i)).ran)
       (subst (λ (x : Device). MayLoad here x e old new) (λ i. record d { journal = sym (append-nil d.journal) i }) (may-load here d e old new keeps));
+}
+
+-- the reply to a write, of which no command ran
+pub write-replies :
+    (here : ℕ → Bool) (d e : Device) (old new : Vgpu) (event : Event) (guest : GuestId) (place : Place) (width : Width) (at value : ℕ) (notice : Notice) (reply : Reply) → event ≡ Write guest place width at value
+    → Makes here d e old new (value_written (private_of d old here) place width at value) notice → reply ≡ replied guest Nothing notice → Replies here d e old new (answer (private_of d old here) event) reply
+write-replies here d e old new event guest place width at value notice reply is makes told = record {
+  reply_is = (λ i. (answer (private_of d old here) (is i)).reply) ∙ (λ i. reply_of guest Nothing (makes.written i)) ∙ sym told;
+  left = (λ i. (answer (private_of d old here) (is i)).left) ∙ (λ i. (makes.written i).device);
+  keeps = subst (λ ran. MayLoad here (journalled d ran) e old new) (λ i. (answer (private_of d old here) (sym is i)).ran)
+      (subst (λ (x : Device). MayLoad here x e old new) (λ i. record d { journal = sym (append-nil d.journal) i }) (may-load here d e old new makes.keeps));
 }

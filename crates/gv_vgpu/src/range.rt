@@ -131,7 +131,7 @@ impl Vgpu {
         ensures stops { IfErr result (λ stop. Stops (is_here here) (G.state gpu.old) (G.state gpu.new) self.old stop) }
         ensures faults { IsErrOf result Stop.DeviceFault → MayFault (private_of (G.state gpu.old) self.old (is_here here)) Place.Registers width offset value }
         ensures lacks { IsErrOf result Stop.OutOfMemory → MayLackMemory (private_of (G.state gpu.old) self.old (is_here here)) Place.Registers width offset }
-        ensures part { OnOk result (IsPlainAt width offset → ChangesAccess 6 (G.state gpu.old) (G.state gpu.new) self.old) }
+        ensures part { OnOk result (IsPlainWrite (private_of (G.state gpu.old) self.old (is_here here)) Place.Registers width offset → ChangesAccess 6 (G.state gpu.old) (G.state gpu.new) self.old) }
     {
         if offset < TABLE_AT {
             self.write_dwords(gpu, here, width, offset as u32, value)

@@ -1,12 +1,11 @@
 ghost use Rattle.std.specs.Prelude.{◌≡◌, ◌≢◌, ℕ, ◌%◌, ◌^◌, ◌<◌, ◌≤◌, length};
 ghost use Rattle.gv_types.specs.Memory.{bytes_of, all_ones};
 ghost use Rattle.gv_entry.specs.Global.{entry_of};
-ghost use Rattle.gv_gpu.specs.Change.{ChangesOnly};
-ghost use Rattle.gv_gpu.specs.Part.{entries_part, frames_part};
-ghost use Rattle.gv_gtt.specs.Gtt.{number_of, ranges_of, entries_of};
+ghost use Rattle.gv_gtt.specs.Gtt.{ranges_of, entries_of};
 ghost use Rattle.gv_private.specs.Access.{aperture_written, entry_after, page_at, table_at, table_written};
 ghost use Rattle.gv_private.specs.Registers.{general_written};
 ghost use Rattle.gv_vgpu.specs.Changes.{Keeps};
+ghost use Rattle.gv_vgpu.specs.Plain.{ChangesAccess};
 ghost use Rattle.gv_vgpu.specs.Vgpu.{engine_at, private_of};
 ghost use Rattle.gv_vgpu.specs.General.{kept_written, with_dword};
 ghost use Rattle.gv_vgpu.specs.Owners.{is_here};
@@ -33,7 +32,7 @@ impl Vgpu {
         requires fits { value ≤ all_ones width }
         ensures device { private_of (G.state gpu.new) self.now (is_here here) ≡ aperture_written (private_of (G.state gpu.old) self.now (is_here here)) width at value }
         ensures keeps { Keeps (is_here here) (G.state gpu.old) (G.state gpu.new) self.now self.now }
-        ensures part { ChangesOnly (frames_part (number_of self.now.gtt)) 1 (G.state gpu.old) (G.state gpu.new) }
+        ensures part { ChangesAccess 6 (G.state gpu.old) (G.state gpu.new) self.now }
     {
         self.gtt.write_aperture(gpu, at, width, value);
     }
@@ -69,7 +68,7 @@ impl Vgpu {
         requires fits { value ≤ all_ones width }
         ensures device { private_of (G.state gpu.new) self.new (is_here here) ≡ table_written (private_of (G.state gpu.old) self.old (is_here here)) width offset value }
         ensures keeps { Keeps (is_here here) (G.state gpu.old) (G.state gpu.new) self.old self.new }
-        ensures part { ChangesOnly (entries_part (ranges_of self.old.gtt)) 0 (G.state gpu.old) (G.state gpu.new) }
+        ensures part { ChangesAccess 6 (G.state gpu.old) (G.state gpu.new) self.old }
     {
         let entry = self.entry_after(width, offset, value);
         self.gtt

@@ -8,7 +8,7 @@ use Rattle.gv_vgpu.specs.Plain.{IsPlain, ReadsAlone}
 use Rattle.gv_vgpu.specs.Vgpu.{private_of}
 use Rattle.gv_vgpu.specs.Owners.{is_here}
 use Rattle.gv_vgpu.proofs.Stopping.{err-again}
-use Rattle.gv_vgpu.proofs.Moves.{move-replies}
+use Rattle.gv_vgpu.proofs.Moves.{move-replies, write-replies}
 use Rattle.gv_vgpu.proofs.Plain.{access-frames, access-none}
 use Rattle.gv_vgpu.proofs.vgpu.Vgpu.access.Goals as goal
 
@@ -50,3 +50,8 @@ pub returns-in_err-answer-in-Move-clause-lacks : goal.returns-in_err-answer-in-M
 returns-in_err-answer-in-Move-clause-lacks g c =
     let p = err_from_is_err_and c.from_residual-in_err-answer-in-Move.result c.from_residual-in_err-answer-in-Move.ensures.1 in rw (p.1, p.2)
     (λ lack. subst (λ event. AccessMayLackMemory (private_of (g.G.Gpu.state c.args.gpu.now) c.args.self.now (is_here c.args.here)) event) (sym c.in-Move.is) c.in_err-answer-in-Move.ensures.lacks)
+
+pub returns-in_ok-notice-in-Write-clause-replies : goal.returns-in_ok-notice-in-Write-clause-replies
+returns-in_ok-notice-in-Write-clause-replies g c =
+    write-replies (is_here c.args.here) (g.G.Gpu.state c.args.gpu.now) (g.G.Gpu.state c.write.new.gpu) c.args.self.now c.write.new.self c.args.event.now c.in-Write.guest c.in-Write.place c.in-Write.width c.in-Write.at c.in-Write.value
+    c.in_ok-notice-in-Write.notice c.reply-in-Write.result c.in-Write.is c.in_ok-notice-in-Write.ensures.written c.reply-in-Write.ensures

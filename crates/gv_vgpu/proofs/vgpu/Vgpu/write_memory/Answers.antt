@@ -1,4 +1,5 @@
-use Rattle.std.proofs.Common.{Err, refl}
+use Rattle.std.proofs.Common.{Err, arith, refl}
+use Rattle.std.proofs.lemmas.Bool.{false≢true}
 use Rattle.gv_types.specs.declared.reply.Reason.TheVariants.{Entry}
 use Rattle.gv_types.specs.declared.reply.Stop.{Stop}
 use Rattle.gv_types.specs.declared.reply.Stop.TheVariants.{DeviceFault}
@@ -11,6 +12,7 @@ use Rattle.gv_vgpu.specs.Vgpu.{private_of}
 use Rattle.gv_vgpu.specs.Owners.{is_here}
 use Rattle.gv_vgpu.specs.declared.vgpu.Vgpu.{Vgpu}
 use Rattle.gv_vgpu.proofs.Failing.{fail-stops-then, may-fail-after}
+use Rattle.gv_vgpu.proofs.Plain.{access-frames, ok-anyway}
 use Rattle.gv_vgpu.proofs.Words.{bad-written, good-written}
 use Rattle.gv_vgpu.proofs.Stopping.{err-of, if-ok, ok-of, on-err, stops-without}
 use Rattle.gv_vgpu.proofs.vgpu.Vgpu.write_memory.Goals as goal
@@ -62,3 +64,11 @@ returns-in-Err-BadEntry-clause-stops g c =
     (on-err c.fail.result (Stops here e f new DeviceFault) (Stops here d f old DeviceFault)
     (λ stops. fail-stops-then here d e f old new (memory_of e new.gtt) DeviceFault (may-fail-after d e old new here c.requires.holds c.write.ensures.changes refl refl refl c.write.ensures.stands) stops)
     c.fail.ensures.faults)
+
+pub returns-in-Ok-clause-part : goal.returns-in-Ok-clause-part
+returns-in-Ok-clause-part g c = λ plain. access-frames 1 6 (g.G.Gpu.state c.args.gpu.now) (g.G.Gpu.state c.write.new.gpu) c.args.self.now (omega arith) (c.write.ensures.part plain)
+
+pub returns-in-Err-BadEntry-clause-part : goal.returns-in-Err-BadEntry-clause-part
+returns-in-Err-BadEntry-clause-part g c =
+    ok-anyway c.or_stop.result _
+    (λ plain. absurd (false≢true (c.in-Err-BadEntry.ensures.beside plain)))
