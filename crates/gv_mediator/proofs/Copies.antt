@@ -1,7 +1,6 @@
 -- What an event leaves of the copies that all guests' elements at work run from.
-use Rattle.std.proofs.Common.{◌≡◌, ◌≢◌, ℕ, ◌<◌, Option, None, Some, List, length, set, refl, sym, ◌∙◌, subst}
+use Rattle.std.proofs.Common.{◌≡◌, ◌≢◌, ℕ, Bool, Option, None, List, length, set, refl, subst}
 use Rattle.gv_gpu.specs.Device.{Device}
-use Rattle.gv_element.specs.Works.{Held}
 use Rattle.gv_private.specs.Turn.{JournalEntry}
 use Rattle.gv_vgpu.specs.Changes.{journalled}
 use Rattle.gv_vgpu.specs.Copies.{CopiesStay, NoneComes}

@@ -1,5 +1,5 @@
 -- What a reply promises of the guests' tables, from what the call of one guest promises of its own.
-use Rattle.std.proofs.Common.{◌≡◌, ℕ, ◌<◌, Bool, Some, List, Result, Ok, Err, IfOk, OnOk, Option, sym, ap, ◌∙◌, subst}
+use Rattle.std.proofs.Common.{◌≡◌, ℕ, ◌<◌, Bool, Some, Result, Ok, Err, IfOk, OnOk, Option, sym, ap, ◌∙◌, subst}
 use Rattle.std.proofs.lemmas.List.{get_or-set_same, length-set}
 use Rattle.std.specs.Vec.{with_item}
 use Rattle.gv_types.specs.declared.event.Event.{Event}

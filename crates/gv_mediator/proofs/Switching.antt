@@ -1,5 +1,5 @@
 -- A switch of an engine, and what comes of it for the machine.
-use Rattle.std.proofs.Common.{◌≡◌, ℕ, ◌<◌, Bool, true, false, Option, None, Some, List, length, set, take, ap, sym, ◌∙◌, subst, refl}
+use Rattle.std.proofs.Common.{◌≡◌, ℕ, ◌<◌, Bool, true, false, Option, None, Some, List, length, get_or, set, take, ap, sym, ◌∙◌, subst, refl}
 use Rattle.std.proofs.lemmas.List.{get_or_default, length-map, length-set, set-get_or}
 use Rattle.std.specs.Vec.{with_item}
 use Rattle.gv_types.specs.Maps.{put}

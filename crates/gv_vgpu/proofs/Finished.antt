@@ -19,7 +19,7 @@ use Rattle.gv_private.specs.Turn.{finished}
 use Rattle.gv_sring.specs.Window.{WindowIsAbsent}
 use Rattle.gv_turn.specs.Owned.{OwnsLeft}
 use Rattle.gv_vgpu.specs.Changes.{Keeps, Makes, own_live}
-use Rattle.gv_vgpu.specs.Vgpu.{element_in, engine_at, no_engine, private_of, working_in}
+use Rattle.gv_vgpu.specs.Vgpu.{engine_at, no_engine, private_of, working_in}
 use Rattle.gv_vgpu.specs.Standing.{Holds, IsAway, StandsOn}
 use Rattle.gv_vgpu.specs.Turn.{Completes, EndOf, front_tail_written}
 use Rattle.gv_vgpu.specs.declared.notice.Notice.{Notice}
