@@ -46,17 +46,18 @@ module _ (d : Device) (guest engine root_page : ℕ) (x : Held) (works : Works d
   there : d.loaded engine ≡ Some l
   there = works.loaded refl
 
-  is : e ≡ put_away
-  is = stopped-is d image engine l there has works.runs.small
+  -- the place goes into the image, and no context is loaded
+  pub is-put-away : e ≡ put_away
+  is-put-away = stopped-is d image engine l there has works.runs.small
 
   lengths : (q : ℕ) (b : Bool) → eqb q image ≡ b → length (e.words q) ≡ length (d.words q)
   lengths q true hit =
       let same = eqb-true q image hit in
       ap (λ n. length (e.words n)) same ∙ (stopped-image d image engine l there has works.runs.small).long ∙ sym has.long ∙ sym (ap (λ n. length (d.words n)) same)
-  lengths q false miss = let differ : q ≢ image = grind (arith, nat_tests) in ap (λ (y : Device). length (y.words q)) is ∙ ap length (put-other d.words image words q differ)
+  lengths q false miss = let differ : q ≢ image = grind (arith, nat_tests) in ap (λ (y : Device). length (y.words q)) is-put-away ∙ ap length (put-other d.words image words q differ)
 
   shows : Shows e w
-  shows = shows-same d e w works.window.tail_below (λ i h. ap (λ (y : Device). y.global (first_of w + i)) is) (λ k h. ap (λ (y : Device). y.label (page_at w k)) is) (λ k h. lengths (page_at w k) (eqb (page_at w k) image) refl) works.runs.shows
+  shows = shows-same d e w works.window.tail_below (λ i h. ap (λ (y : Device). y.global (first_of w + i)) is-put-away) (λ k h. ap (λ (y : Device). y.label (page_at w k)) is-put-away) (λ k h. lengths (page_at w k) (eqb (page_at w k) image) refl) works.runs.shows
 
   back : context_of e l.owner l.descriptor ≡ l
   back = stopped-context d image engine l there has works.runs.small works.runs.image

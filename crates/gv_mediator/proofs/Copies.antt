@@ -2,15 +2,16 @@
 use Rattle.std.proofs.Common.{◌≡◌, ◌≢◌, ℕ, Bool, Option, None, List, length, set, refl, subst}
 use Rattle.gv_gpu.specs.Device.{Device}
 use Rattle.gv_private.specs.Turn.{JournalEntry}
-use Rattle.gv_vgpu.specs.Changes.{journalled}
+use Rattle.gv_vgpu.specs.Changes.{ChangesOwn, journalled}
 use Rattle.gv_vgpu.specs.Copies.{CopiesStay, NoneComes}
+use Rattle.gv_vgpu.specs.Standing.{Holds}
 use Rattle.gv_vgpu.specs.declared.vgpu.Vgpu.{Vgpu}
 use Rattle.gv_vgpu.proofs.Copies.{comes-none, comes-stay, comes-then}
 use Rattle.gv_vgpu.proofs.Others.{copies_stand, device_stands, device_stays}
 use Rattle.gv_vgpu.proofs.Small.{devices_are_small, windows_are_small}
 use Rattle.gv_mediator.specs.Rota.{owns}
 use Rattle.gv_mediator.specs.Tied.{IsAt, Ties}
-use Rattle.gv_mediator.proofs.OneGuest.{Changed, OwnersChange, at-each, left, one-there}
+use Rattle.gv_mediator.proofs.OneGuest.{OwnersChange, at-each, left, one-there}
 
 -- At each place no element came.
 abbrev pub AllCome : Device → Device → List Vgpu → List Vgpu → Type 0
@@ -23,11 +24,11 @@ AllStay d e before after = (k : ℕ) (v w : Vgpu) → IsAt before k v → IsAt a
 -- ---- a call of one guest
 
 module _ (d e : Device) (before after : ℕ → Option ℕ) (engines : ℕ → Bool) (guests : List Vgpu) (g : ℕ) (old new : Vgpu) (here : IsAt guests g old) (ties : Ties d before guests) (ran : List JournalEntry)
-    (changed : Changed engines (owns after g) (journalled d ran) e old new) (owners : OwnersChange engines before after g (length guests)) (idle : (engine : ℕ) → after engine ≡ None → e.loaded engine ≡ None) where
+    (holds : Holds e new (owns after g)) (changes : ChangesOwn engines (journalled d ran) e old new) (owners : OwnersChange engines before after g (length guests)) (idle : (engine : ℕ) → after engine ≡ None → e.loaded engine ≡ None) where
   -- no element of another guest's came
   others-come : (k : ℕ) (x : Vgpu) → IsAt guests k x → k ≢ g → NoneComes d e x x
   others-come k x within differ =
-      copies_stand d e x (owns before k) (ties.holds k x within) (left device_stands device_stays devices_are_small windows_are_small d e before after engines guests g old new here ties ran changed owners idle k x within differ)
+      copies_stand d e x (owns before k) (ties.holds k x within) (left device_stands device_stays devices_are_small windows_are_small d e before after engines guests g old new here ties ran holds changes owners idle k x within differ)
 
   pub all-come : NoneComes d e old new → AllCome d e guests (set guests g new)
   all-come own = at-each (NoneComes d e) guests g old new here own others-come

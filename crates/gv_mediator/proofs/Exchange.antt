@@ -6,12 +6,12 @@ use Rattle.std.proofs.lemmas.Option.{none-some}
 use Rattle.gv_types.specs.Maps.{put}
 use Rattle.gv_gpu.specs.Change.{Ran}
 use Rattle.gv_gpu.specs.Device.{Device}
-use Rattle.gv_gpu.specs.Part.{AreDisjoint, guest_part, outside}
+use Rattle.gv_gpu.specs.Part.{AreDisjoint}
 use Rattle.gv_gtt.specs.Gtt.{number_of, ranges_of}
 use Rattle.gv_machine.specs.Machine.{no_ranges}
 use Rattle.gv_private.specs.Device.{new_device}
 use Rattle.gv_sched.specs.Rota.{Owners}
-use Rattle.gv_vgpu.specs.Changes.{journalled}
+use Rattle.gv_vgpu.specs.Changes.{ChangesOwn, journalled}
 use Rattle.gv_vgpu.specs.Exchange.{Exchanges, owning}
 use Rattle.gv_vgpu.specs.Vgpu.{private_of}
 use Rattle.gv_vgpu.specs.declared.vgpu.Vgpu.{Vgpu}
@@ -20,7 +20,7 @@ use Rattle.gv_mediator.specs.Tied.{IsAt, Ties, devices_in}
 use Rattle.gv_vgpu.proofs.Others.{device_stands, device_stays}
 use Rattle.gv_vgpu.proofs.Small.{devices_are_small, windows_are_small}
 use Rattle.gv_mediator.proofs.Copies.{AllCome, all-come}
-use Rattle.gv_mediator.proofs.OneGuest.{Changed, OwnersChange, device-there, devices-set, loaded-same, ties-after}
+use Rattle.gv_mediator.proofs.OneGuest.{OwnersChange, device-there, devices-set, loaded-same, ties-after}
 use Rattle.gv_mediator.proofs.Owning.{below-four, owners-disjoint, owns-it, same-some}
 
 -- ---- owners
@@ -97,31 +97,28 @@ module _ (s : Owners) (engine n : ℕ) (small : engine < 4) (four : length s.own
 
 module _ (d e : Device) (before after : ℕ → Option ℕ) (engines : ℕ → Bool) (guests : List Vgpu) (g : ℕ) (old new : Vgpu) (here : IsAt guests g old) (ties : Ties d before guests)
     (exchanges : Exchanges engines (owns before g) (owns after g) d e old new) (owners : OwnersChange engines before after g (length guests)) (idle : (engine : ℕ) → after engine ≡ None → e.loaded engine ≡ None) where
-  same : outside (guest_part (number_of old.gtt) (ranges_of old.gtt) engines) e ≡ outside (guest_part (number_of old.gtt) (ranges_of old.gtt) engines) (journalled d [])
-  same = exchanges.outside ∙ ap (λ journal. outside (guest_part (number_of old.gtt) (ranges_of old.gtt) engines) (record d { journal = journal })) (sym (append-nil d.journal))
-
-  changed : Changed engines (owns after g) (journalled d []) e old new
-  changed = record { holds = exchanges.holds; number = exchanges.number; frames = exchanges.frames; ranges = exchanges.ranges; outside = same; live = exchanges.live }
+  changes : ChangesOwn engines (journalled d []) e old new
+  changes = subst (λ journal. ChangesOwn engines (record d { journal = journal }) e old new) (sym (append-nil d.journal)) exchanges.changes
 
   pub ties-exchanged : Ties e after (set guests g new)
-  ties-exchanged = ties-after device_stands device_stays devices_are_small windows_are_small d e before after engines guests g old new here ties [] changed owners idle
+  ties-exchanged = ties-after device_stands device_stays devices_are_small windows_are_small d e before after engines guests g old new here ties [] exchanges.holds changes owners idle
 
   was : get_or (devices_in d before guests) g (new_device 0 0 no_ranges) ≡ private_of d old (owns before g)
   was = device-there d before guests g old here ∙ ap (λ n. private_of d old (owns before n)) (ties.number g old here)
 
   pub devices-exchanged : devices_in e after (set guests g new) ≡ devices_in d before guests
   devices-exchanged =
-      devices-set device_stands device_stays devices_are_small windows_are_small d e before after engines guests g old new here ties [] changed owners idle (private_of d old (owns before g)) exchanges.device
+      devices-set device_stands device_stays devices_are_small windows_are_small d e before after engines guests g old new here ties [] exchanges.holds changes owners idle (private_of d old (owns before g)) exchanges.device
       ∙ ap (set (devices_in d before guests) g) (sym was)
       ∙ set-get_or (devices_in d before guests) g (new_device 0 0 no_ranges)
 
   pub copies-exchanged : AllCome d e guests (set guests g new)
-  copies-exchanged = all-come d e before after engines guests g old new here ties [] changed owners idle exchanges.copies
+  copies-exchanged = all-come d e before after engines guests g old new here ties [] exchanges.holds changes owners idle exchanges.copies
 
 pub ran-exchanged : (engines before after : ℕ → Bool) (d e : Device) (old new : Vgpu) → Exchanges engines before after d e old new → Ran d e []
 ran-exchanged engines before after d e old new exchanges = record {
-  journal = ap (λ (x : Device). x.journal) exchanges.outside ∙ sym (append-nil d.journal);
-  strays = ap (λ (x : Device). x.strays) exchanges.outside;
+  journal = ap (λ (x : Device). x.journal) exchanges.changes.outside ∙ sym (append-nil d.journal);
+  strays = ap (λ (x : Device). x.strays) exchanges.changes.outside;
 }
 
 -- ---- put away
@@ -154,7 +151,7 @@ module _ (d e : Device) (owners : ℕ → Option ℕ) (guests : List Vgpu) (g en
       (λ same. ap e.loaded same ∙ idle)
       (λ differ.
       let was : owners j ≡ None = sym (put-other owners engine None j differ) ∙ none in
-      loaded-same (number_of old.gtt) (ranges_of old.gtt) (owns owners g) d e away.outside j (ap (is_guest g) was) ∙ ties.idle j was)
+      loaded-same (number_of old.gtt) (ranges_of old.gtt) (owns owners g) d e away.changes.outside j (ap (is_guest g) was) ∙ ties.idle j was)
       (cases_eq j engine)
 
   pub ties-away : Ties e between (set guests g new)
@@ -199,7 +196,7 @@ module _ (d e : Device) (owners : ℕ → Option ℕ) (guests : List Vgpu) (n en
       (λ same. absurd (none-some n (sym none ∙ put-same owners engine (Some n) j same)))
       (λ differ.
       let was : owners j ≡ None = sym (put-other owners engine (Some n) j differ) ∙ none in
-      loaded-same (number_of v.gtt) (ranges_of v.gtt) (owns afterwards n) d e brought.outside j (ap (is_guest n) none) ∙ ties.idle j was)
+      loaded-same (number_of v.gtt) (ranges_of v.gtt) (owns afterwards n) d e brought.changes.outside j (ap (is_guest n) none) ∙ ties.idle j was)
       (cases_eq j engine)
 
   same_guests : set guests n v ≡ guests

@@ -20,7 +20,7 @@ use Rattle.gv_machine.specs.Machine.{no_ranges}
 use Rattle.gv_private.specs.Device.{PrivateDevice, new_device}
 use Rattle.gv_private.specs.Turn.{JournalEntry}
 use Rattle.gv_sggtt.specs.Mirror.{IsAbsent}
-use Rattle.gv_vgpu.specs.Changes.{LiveMoves, MayLoad, journalled, own_live}
+use Rattle.gv_vgpu.specs.Changes.{ChangesOwn, journalled, own_live}
 use Rattle.gv_vgpu.specs.Laws.{DeviceStands, DeviceStays, DevicesAreSmall, WindowsAreSmall}
 use Rattle.gv_vgpu.specs.Vgpu.{private_of}
 use Rattle.gv_vgpu.specs.Standing.{Holds, IsAway}
@@ -68,18 +68,6 @@ at-each R guests g old new here own rest k v w before now = ⊎_elim
     placed : IsAt (set guests g new) g new
     placed = (subst (λ n. g < n) (sym (length-set guests g new)) here.0, get_or-set_same guests g new new here.0)
 
--- What a call leaves of one guest's device. The guest owns these engines then, and the call changed these.
-pub record Changed (engines after : ℕ → Bool) (d e : Device) (old new : Vgpu) : Type 0 where
-  pub holds : Holds e new after
-  pub number : number_of new.gtt ≡ number_of old.gtt
-  pub frames : length (frames_of new.gtt).pages ≡ length (frames_of old.gtt).pages
-  pub ranges : ranges_of new.gtt ≡ ranges_of old.gtt
-  pub outside : outside (guest_part (number_of old.gtt) (ranges_of old.gtt) engines) e ≡ outside (guest_part (number_of old.gtt) (ranges_of old.gtt) engines) d
-  pub live : LiveMoves d e (own_live old) (own_live new)
-
-pub changed-kept : (here : ℕ → Bool) (d e : Device) (old new : Vgpu) → MayLoad here d e old new → Changed here here d e old new
-changed-kept here d e old new keeps = record { holds = keeps.holds; number = keeps.number; frames = keeps.frames; ranges = keeps.ranges; outside = keeps.outside; live = keeps.live }
-
 -- Who owns engines before and after a call of guest g. The engines that it changes are no other guest's, and each other
 -- guest owns the same ones.
 pub record OwnersChange (engines : ℕ → Bool) (before after : ℕ → Option ℕ) (g count : ℕ) : Type 0 where
@@ -97,7 +85,7 @@ not-owned true b own free = let not = free refl in cc
 
 module _ (stands : DeviceStands) (stays : DeviceStays) (small : DevicesAreSmall) (windows : WindowsAreSmall)
     (d e : Device) (before after : ℕ → Option ℕ) (engines : ℕ → Bool) (guests : List Vgpu) (g : ℕ) (old new : Vgpu) (here : IsAt guests g old) (ties : Ties d before guests) (ran : List JournalEntry)
-    (changed : Changed engines (owns after g) (journalled d ran) e old new) (owners : OwnersChange engines before after g (length guests)) (idle : (engine : ℕ) → after engine ≡ None → e.loaded engine ≡ None) where
+    (holds : Holds e new (owns after g)) (changes : ChangesOwn engines (journalled d ran) e old new) (owners : OwnersChange engines before after g (length guests)) (idle : (engine : ℕ) → after engine ≡ None → e.loaded engine ≡ None) where
   there : g < length guests
   there = here.0
 
@@ -121,7 +109,7 @@ module _ (stands : DeviceStands) (stays : DeviceStays) (small : DevicesAreSmall)
   pub ranges-set : all_ranges (set guests g new) ≡ all_ranges guests
   ranges-set =
       map-set (λ (v : Vgpu). ranges_of v.gtt) guests g new
-      ∙ ap (set (all_ranges guests) g) (changed.ranges ∙ sym (ranges-there guests g old here))
+      ∙ ap (set (all_ranges guests) g) (changes.ranges ∙ sym (ranges-there guests g old here))
       ∙ set-get_or (all_ranges guests) g no_ranges
 
   -- ---- the others
@@ -142,7 +130,7 @@ module _ (stands : DeviceStands) (stays : DeviceStays) (small : DevicesAreSmall)
   left k x within differ =
       inside-kept (guest_part (number_of old.gtt) (ranges_of old.gtt) engines) (standing_part (number_of x.gtt) (ranges_of x.gtt) (owns before k)) (journalled d ran) e
       (apart-standing (number_of old.gtt) (number_of x.gtt) (ranges_of old.gtt) (ranges_of x.gtt) (others k x within differ) (parts g old here) (parts k x within) (apart k x within differ) engines (owns before k) (owners.free k differ))
-      changed.outside
+      changes.outside
 
   -- ---- loaded contexts
 
@@ -156,7 +144,7 @@ module _ (stands : DeviceStands) (stays : DeviceStays) (small : DevicesAreSmall)
   still : (h engine : ℕ) → h ≢ g → owns after h engine ≡ true → (owns before h engine ≡ true) × (e.loaded engine ≡ d.loaded engine)
   still h engine another own_now =
       let own : owns before h engine ≡ true = sym (ap (λ (f : ℕ → Bool). f engine) (owners.same h another)) ∙ own_now in
-      (own, loaded-same (number_of old.gtt) (ranges_of old.gtt) engines (journalled d ran) e changed.outside engine (not-owned (engines engine) (owns before h engine) own (owners.free h another engine)))
+      (own, loaded-same (number_of old.gtt) (ranges_of old.gtt) engines (journalled d ran) e changes.outside engine (not-owned (engines engine) (owns before h engine) own (owners.free h another engine)))
 
   away : (k : ℕ) (x : Vgpu) → IsAt guests k x → k ≢ g → IsAway e (number_of x.gtt) (owns after k)
   away k x within differ engine below other l is = by (after engine) refl
@@ -166,7 +154,7 @@ module _ (stands : DeviceStands) (stays : DeviceStays) (small : DevicesAreSmall)
       by (Some h) owned = ⊎_elim
           (λ mine.
           let own : owns after g engine ≡ true = ap (is_guest g) owned ∙ own_test mine in
-          numbered k x within g (λ same. differ (sym same)) l (loaded-owner e new (owns after g) engine changed.holds below own l is ∙ changed.number ∙ number))
+          numbered k x within g (λ same. differ (sym same)) l (loaded-owner e new (owns after g) engine holds below own l is ∙ changes.number ∙ number))
           (λ another.
           let y = get_or guests h old in
           let y_at : IsAt guests h y = (owners.there engine h owned, get_or_default guests h y old (owners.there engine h owned)) in
@@ -187,7 +175,7 @@ module _ (stands : DeviceStands) (stays : DeviceStays) (small : DevicesAreSmall)
 
   new_small : AllByRecursion IsSmall (set guests g new)
   new_small = all-at IsSmall (set guests g new) (λ k v within. ⊎_elim
-      (λ is. subst IsSmall (new_at k v is within) (is-small new (small e new (owns after g) changed.holds)))
+      (λ is. subst IsSmall (new_at k v is within) (is-small new (small e new (owns after g) holds)))
       (λ differ. let was = old_at k v differ within in is-small v (small d v (owns before k) (ties.holds k v was)))
       (cases_eq k g))
 
@@ -204,7 +192,7 @@ module _ (stands : DeviceStands) (stays : DeviceStays) (small : DevicesAreSmall)
   live-sum a b before after sum moved one two three = omega arith
 
   live-set : e.live ≡ all_live (set guests g new)
-  live-set = live-sum e.live d.live (own_live old) (own_live new) (all_live guests) (all_live (set guests g new)) (changed.live own-within) (sums own_live) ties.live
+  live-set = live-sum e.live d.live (own_live old) (own_live new) (all_live guests) (all_live (set guests g new)) (changes.live own-within) (sums own_live) ties.live
 
   frames-sum : (a b c : ℕ) → a + b ≡ c + b → a ≡ c
   frames-sum a b c is = omega arith
@@ -212,7 +200,7 @@ module _ (stands : DeviceStands) (stays : DeviceStays) (small : DevicesAreSmall)
   frames-set : all_frames (set guests g new) ≡ all_frames guests
   frames-set =
       frames-sum (all_frames (set guests g new)) (length (frames_of old.gtt).pages) (all_frames guests)
-      (sums (λ (v : Vgpu). length (frames_of v.gtt).pages) ∙ ap (λ n. all_frames guests + n) changed.frames)
+      (sums (λ (v : Vgpu). length (frames_of v.gtt).pages) ∙ ap (λ n. all_frames guests + n) changes.frames)
 
   new_few : all_frames (set guests g new) ≤ 16384
   new_few = subst (λ n. n ≤ 16384) (sym frames-set) ties.few
@@ -241,7 +229,7 @@ module _ (stands : DeviceStands) (stays : DeviceStays) (small : DevicesAreSmall)
   by_owner n l true is own = subst (λ k. k < length guests) (sym (own_page (number_of old.gtt) l own ∙ number)) there
   by_owner n l false is other =
       let seen : cond (is_page_of (number_of old.gtt) (e.label n)) None (e.label n) ≡ Some l = rw (is, other) refl in
-      ties.pages n l (shown (is_page_of (number_of old.gtt) (d.label n)) l (d.label n) (sym (ap (λ (x : Device). x.label n) changed.outside) ∙ seen))
+      ties.pages n l (shown (is_page_of (number_of old.gtt) (d.label n)) l (d.label n) (sym (ap (λ (x : Device). x.label n) changes.outside) ∙ seen))
 
   unowned : (i : ℕ) → All (λ ranges. owns_page ranges i ≡ false) (all_ranges guests) → is_in_windows g i ≡ false → (owns_page (ranges_of old.gtt) i || is_in_windows (number_of old.gtt) i) ≡ false
   unowned i all window =
@@ -252,11 +240,11 @@ module _ (stands : DeviceStands) (stays : DeviceStays) (small : DevicesAreSmall)
   pub ties-after : Ties e after (set guests g new)
   ties-after = record {
     number = λ k x within. ⊎_elim
-        (λ is. ap (λ (v : Vgpu). number_of v.gtt) (sym (new_at k x is within)) ∙ changed.number ∙ number ∙ sym is)
+        (λ is. ap (λ (v : Vgpu). number_of v.gtt) (sym (new_at k x is within)) ∙ changes.number ∙ number ∙ sym is)
         (λ differ. ties.number k x (old_at k x differ within))
         (cases_eq k g);
     holds = λ k x within. ⊎_elim
-        (λ is. subst (λ i. Holds e x (owns after i)) (sym is) (subst (λ v. Holds e v (owns after g)) (new_at k x is within) changed.holds))
+        (λ is. subst (λ i. Holds e x (owns after i)) (sym is) (subst (λ v. Holds e v (owns after g)) (new_at k x is within) holds))
         (λ differ. holds-other k x (old_at k x differ within) differ)
         (cases_eq k g);
     apart = subst AreAllApart (sym ranges-set) ties.apart;
@@ -267,7 +255,7 @@ module _ (stands : DeviceStands) (stays : DeviceStays) (small : DevicesAreSmall)
     rest = λ i free far.
         let all = subst (All (λ ranges. owns_page ranges i ≡ false)) ranges-set free in
         let away : (k : ℕ) → k < length guests → is_in_windows k i ≡ false = λ k h. far k (subst (λ n. k < n) (sym (length-set guests g new)) h) in
-        subst IsAbsent (sym (global-others (guest_part (number_of old.gtt) (ranges_of old.gtt) engines) (journalled d ran) e i (unowned i all (away g there)) changed.outside)) (ties.rest i all away);
+        subst IsAbsent (sym (global-others (guest_part (number_of old.gtt) (ranges_of old.gtt) engines) (journalled d ran) e i (unowned i all (away g there)) changes.outside)) (ties.rest i all away);
     few = new_few;
     eight = new_eight;
   }
@@ -277,7 +265,7 @@ module _ (stands : DeviceStands) (stays : DeviceStays) (small : DevicesAreSmall)
       let now = map (device_in e after) guests in
       let was = devices_in d before guests in
       let hk : k < length guests = subst (λ n. k < n) (length-set now g (device_in e after new) ∙ length-map guests (device_in e after)) h in
-      let mine : device_in e after new ≡ p = ap (λ n. private_of e new (owns after n)) (changed.number ∙ number) ∙ is in
+      let mine : device_in e after new ≡ p = ap (λ n. private_of e new (owns after n)) (changes.number ∙ number) ∙ is in
       ⊎_elim
       (λ same_guest.
       ap (λ i. get_or (set now g (device_in e after new)) i b) same_guest
@@ -298,9 +286,9 @@ module _ (stands : DeviceStands) (stays : DeviceStays) (small : DevicesAreSmall)
 
 -- ---- a call that keeps owners
 
-module _ (d e : Device) (owners : ℕ → Option ℕ) (guests : List Vgpu) (g : ℕ) (old new : Vgpu) (ties : Ties d owners guests) (ran : List JournalEntry) (keeps : MayLoad (owns owners g) (journalled d ran) e old new) where
+module _ (d e : Device) (owners : ℕ → Option ℕ) (guests : List Vgpu) (g : ℕ) (old new : Vgpu) (ties : Ties d owners guests) (ran : List JournalEntry) (changes : ChangesOwn (owns owners g) (journalled d ran) e old new) where
   pub owners-stay : OwnersChange (owns owners g) owners owners g (length guests)
   owners-stay = record { free = λ k differ. owners-disjoint owners g k (λ is. differ (sym is)); same = λ k differ. refl; there = ties.there }
 
   pub idle-stays : (engine : ℕ) → owners engine ≡ None → e.loaded engine ≡ None
-  idle-stays engine none = loaded-same (number_of old.gtt) (ranges_of old.gtt) (owns owners g) (journalled d ran) e keeps.outside engine (ap (is_guest g) none) ∙ ties.idle engine none
+  idle-stays engine none = loaded-same (number_of old.gtt) (ranges_of old.gtt) (owns owners g) (journalled d ran) e changes.outside engine (ap (is_guest g) none) ∙ ties.idle engine none

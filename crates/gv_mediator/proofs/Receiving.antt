@@ -17,7 +17,7 @@ use Rattle.gv_private.specs.Inputs.{Answered, answer}
 use Rattle.gv_private.specs.Turn.{JournalEntry}
 use Rattle.gv_sched.specs.Rota.{owner_of}
 use Rattle.gv_vgpu.specs.Access.{IsAccess, Replies}
-use Rattle.gv_vgpu.specs.Changes.{Stops, entry_of, journalled}
+use Rattle.gv_vgpu.specs.Changes.{Stops, entry_of}
 use Rattle.gv_vgpu.specs.Vgpu.{private_of}
 use Rattle.gv_vgpu.specs.Standing.{HasRoomToLoad}
 use Rattle.gv_vgpu.specs.declared.vgpu.Vgpu.{Vgpu}
@@ -29,7 +29,7 @@ use Rattle.gv_mediator.specs.declared.mediator.Mediator.{Mediator}
 use Rattle.gv_vgpu.proofs.Others.{device_stands, device_stays}
 use Rattle.gv_vgpu.proofs.Small.{devices_are_small, windows_are_small}
 use Rattle.gv_mediator.proofs.Copies.{AllStay, all-stay}
-use Rattle.gv_mediator.proofs.OneGuest.{Changed, OwnersChange, changed-kept, device-there, devices-set, idle-stays, owners-stay, ties-after}
+use Rattle.gv_mediator.proofs.OneGuest.{OwnersChange, device-there, devices-set, idle-stays, owners-stay, ties-after}
 use Rattle.gv_mediator.proofs.Owning.{owner-of-engine, owns-it, same-some}
 use Rattle.gv_mediator.proofs.Room.{IsSmall, all-at, is-small, live-below, room-for}
 
@@ -136,22 +136,19 @@ module _ (d : Device) (m : Mediator) (tied : Tied d m) (one : Event) (k : ℕ) (
       abbrev ran : List JournalEntry
       ran = (answer (private_of d old (owns (owners_in m.rota) k)) one).ran
 
-      changed : Changed (owns (owners_in m.rota) k) (owns (owners_in m.rota) k) (journalled d ran) e old new
-      changed = changed-kept (owns (owners_in m.rota) k) (journalled d ran) e old new replies.keeps
-
       owners : OwnersChange (owns (owners_in m.rota) k) (owners_in m.rota) (owners_in m.rota) k (length guests)
-      owners = owners-stay d e (owners_in m.rota) guests k old new tied.ties ran replies.keeps
+      owners = owners-stay d e (owners_in m.rota) guests k old new tied.ties ran replies.keeps.changes
 
       idle : (engine : ℕ) → owners_in m.rota engine ≡ None → e.loaded engine ≡ None
-      idle = idle-stays d e (owners_in m.rota) guests k old new tied.ties ran replies.keeps
+      idle = idle-stays d e (owners_in m.rota) guests k old new tied.ties ran replies.keeps.changes
 
       pub ties-then : Ties e (owners_in m.rota) (set guests k new)
-      ties-then = ties-after device_stands device_stays devices_are_small windows_are_small d e (owners_in m.rota) (owners_in m.rota) (owns (owners_in m.rota) k) guests k old new here tied.ties ran changed owners idle
+      ties-then = ties-after device_stands device_stays devices_are_small windows_are_small d e (owners_in m.rota) (owners_in m.rota) (owns (owners_in m.rota) k) guests k old new here tied.ties ran replies.keeps.holds replies.keeps.changes owners idle
 
       pub machine-then : record { devices = devices_in e (owners_in m.rota) (set guests k new); owners = owner_of m.rota } ≡ (event_done (machine_of d m) one).left
       machine-then =
           ap (λ devices. record { devices = devices; owners = owner_of m.rota })
-          (devices-set device_stands device_stays devices_are_small windows_are_small d e (owners_in m.rota) (owners_in m.rota) (owns (owners_in m.rota) k) guests k old new here tied.ties ran changed owners idle
+          (devices-set device_stands device_stays devices_are_small windows_are_small d e (owners_in m.rota) (owners_in m.rota) (owns (owners_in m.rota) k) guests k old new here tied.ties ran replies.keeps.holds replies.keeps.changes owners idle
           (answer (device_at (devices_in d (owners_in m.rota) guests) k) one).left (sym replies.left ∙ ap (λ (a : Answered). a.left) (sym answer-same)))
           ∙ ap (λ (c : Course Machine Happened). c.left) (sym is-received)
 
@@ -159,7 +156,7 @@ module _ (d : Device) (m : Mediator) (tied : Tied d m) (one : Event) (k : ℕ) (
       tied-then stopped = record { ties = ties-then; guests = tied.guests ∙ sym (length-set guests k new); engines = tied.engines }
 
       pub copies-then : AllStay d e guests (set guests k new)
-      copies-then = all-stay d e (owners_in m.rota) (owners_in m.rota) (owns (owners_in m.rota) k) guests k old new here tied.ties ran changed owners idle replies.keeps.copies
+      copies-then = all-stay d e (owners_in m.rota) (owners_in m.rota) (owns (owners_in m.rota) k) guests k old new here tied.ties ran replies.keeps.holds replies.keeps.changes owners idle replies.keeps.copies
 
       entries-same : map entry_of (answer (private_of d old (owns (owners_in m.rota) k)) one).ran ≡ entries_ran (event_done (machine_of d m) one).came
       entries-same = ap (λ (a : Answered). map entry_of a.ran) (sym answer-same) ∙ one-ran ∙ ap (λ (c : Course Machine Happened). entries_ran c.came) (sym is-received)
@@ -169,8 +166,8 @@ module _ (d : Device) (m : Mediator) (tied : Tied d m) (one : Event) (k : ℕ) (
 
       pub ran-then : Ran d e (entries_ran (event_done (machine_of d m) one).came)
       ran-then = record {
-        journal = ap (λ (x : Device). x.journal) replies.keeps.outside ∙ ap (λ (ran : List Entry). d.journal ++ ran) entries-same;
-        strays = ap (λ (x : Device). x.strays) replies.keeps.outside;
+        journal = ap (λ (x : Device). x.journal) replies.keeps.changes.outside ∙ ap (λ (ran : List Entry). d.journal ++ ran) entries-same;
+        strays = ap (λ (x : Device). x.strays) replies.keeps.changes.outside;
       }
 
 -- after a call that stopped nothing ran

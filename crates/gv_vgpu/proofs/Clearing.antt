@@ -7,18 +7,16 @@ use Rattle.std.proofs.lemmas.List.Folds.{list_any_none}
 use Rattle.gv_types.specs.Maps.{put}
 use Rattle.gv_ctx.specs.Saved.{fields_of}
 use Rattle.gv_element.specs.Works.{Held, Rests, Works, context_now}
-use Rattle.gv_element.proofs.Away.{stopped-rests, stopped-unloads}
+use Rattle.gv_element.proofs.Away.{is-put-away, stopped-rests, stopped-unloads}
 use Rattle.gv_element.proofs.Going.{away-rests}
 use Rattle.gv_gpu.specs.Context.{stopped}
 use Rattle.gv_gpu.specs.Device.{Device, Loaded, with_loaded}
 use Rattle.gv_gpu.specs.Part.{Part, outside, first_of_window, is_named, is_shadow_of, window_part, shadow_label}
 use Rattle.gv_gtt.specs.Gtt.{gtt_part, number_of}
-use Rattle.gv_sctx.specs.Context.{HasImage}
 use Rattle.gv_sctx.proofs.Dwords.{fields_in}
-use Rattle.gv_sctx.proofs.Saving.{stopped-is, with_words}
+use Rattle.gv_sctx.proofs.Saving.{with_words}
 use Rattle.gv_sring.specs.Window.{WindowIsAbsent, page_at}
 use Rattle.gv_sring.proofs.Named.{named-at, shadow-own}
-use Rattle.gv_sring.proofs.WindowReads.{shows-image}
 use Rattle.gv_vgpu.specs.Changes.{window_pages}
 use Rattle.gv_vgpu.specs.Vgpu.{engine_at}
 use Rattle.gv_vgpu.specs.Reset.{IsGoneIf, IsReset, RestsIf, general_zeroed, reset_part, taken_off, zero_engine}
@@ -84,18 +82,11 @@ module _ (d : Device) (guest engine root_page : ℕ) (x : Held) (works : Works d
   abbrev words : List ℕ
   words = fields_in (d.words image) (fields_of l.place) 7
 
-  has : HasImage d l.owner l.descriptor image
-  has =
-      let small_guest : x.window.guest < 8 = (let a = works.window.guest_is in let b = works.window.guest_below in omega arith) in
-      let small_engine : x.window.engine < 4 = (let a = works.window.engine_is in let b = works.window.engine_below in omega arith) in
-      let P : ℕ → ℕ → Type 0 = λ g n. HasImage d g n image in
-      subst (λ g. P g l.descriptor) (sym works.runs.context.owner) (subst (P x.window.guest) (sym works.runs.context.descriptor) (shows-image d x.window small_guest small_engine works.window.two works.runs.shows))
-
   abbrev put_away : Device
   put_away = with_loaded (with_words d image words) engine None
 
   stopped-so : stopped d engine ≡ put_away
-  stopped-so = stopped-is d image engine l (works.loaded refl) has works.runs.small
+  stopped-so = is-put-away d guest engine root_page x works
 
   -- the image is a page of the window
   image-own : (is_named x.window.pages image && is_shadow_of guest (d.label image)) ≡ true

@@ -101,11 +101,7 @@ comes-stay d e old new comes k x y was is =
 pub may-load : (here : ℕ → Bool) (d e : Device) (old new : Vgpu) → Keeps here d e old new → MayLoad here d e old new
 may-load here d e old new keeps = record {
   holds = keeps.holds;
-  number = keeps.number;
-  frames = keeps.frames;
-  ranges = keeps.ranges;
-  outside = keeps.outside;
-  live = keeps.live;
+  changes = keeps.changes;
   copies = comes-stay d e old new keeps.copies;
 }
 

@@ -45,7 +45,7 @@ module _
     moved = registers-moved d old new here holds gtt engines failsafe
 
     pub moved-holds : StillRuns old new → Holds d new here
-    moved-holds runs = (moved-keeps d old new here holds gtt engines failsafe same runs).holds
+    moved-holds runs = (moved-keeps d old new here holds gtt engines failsafe same (λ k x at. runs k)).holds
 
     engine-same : (k : ℕ) → engine_at new k ≡ engine_at old k
     engine-same k = λ i. slice_index_or (engines i) k no_engine
@@ -54,11 +54,13 @@ module _
     pub keeps-from : (e : Device) (last : Vgpu) → Keeps here d e new last → Keeps here d e old last
     keeps-from e last keeps = record {
       holds = keeps.holds;
-      number = keeps.number ∙ (λ i. number_of (gtt i));
-      frames = keeps.frames ∙ (λ i. length (frames_of (gtt i)).pages);
-      ranges = keeps.ranges ∙ (λ i. ranges_of (gtt i));
-      outside = subst (λ g. outside (guest_part (number_of g) (ranges_of g) here) e ≡ outside (guest_part (number_of g) (ranges_of g) here) d) gtt keeps.outside;
-      live = subst (λ n. LiveMoves d e n (own_live last)) (own-same old new (λ k i. (engine-same k i).element) gtt) keeps.live;
+      changes = record {
+        number = keeps.changes.number ∙ (λ i. number_of (gtt i));
+        frames = keeps.changes.frames ∙ (λ i. length (frames_of (gtt i)).pages);
+        ranges = keeps.changes.ranges ∙ (λ i. ranges_of (gtt i));
+        outside = subst (λ g. outside (guest_part (number_of g) (ranges_of g) here) e ≡ outside (guest_part (number_of g) (ranges_of g) here) d) gtt keeps.changes.outside;
+        live = subst (λ n. LiveMoves d e n (own_live last)) (own-same old new (λ k i. (engine-same k i).element) gtt) keeps.changes.live;
+      };
       copies = comes-then d d e old new last (comes-none d old new (λ k i. (engine-same k i).element)) keeps.copies;
     }
 
@@ -77,7 +79,7 @@ module _
         dword-done notice is =
             makes-done here d d old new (dword_written (private_of d old here) offset value) irq notice
             (does (private_of d old here) ∙ (λ i. record { device = sym moved i; irq = irq; reason = None }))
-            (moved-keeps d old new here holds gtt engines failsafe same done-runs) is
+            (moved-keeps d old new here holds gtt engines failsafe same (λ k x at. done-runs k)) is
 
       -- ---- a list that starts
 

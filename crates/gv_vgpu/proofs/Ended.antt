@@ -349,11 +349,13 @@ module _ (before : Device) (old : Vgpu) (here : ℕ → Bool) (engine : ℕ) (x 
           sixteen = λ k n mine above. (λ i. general-same k i n) ∙ holds.sixteen k n mine above;
           kept = still-sixteen;
         };
-        number = λ i. number_of (gtt i);
-        frames = λ i. length (frames_of (gtt i)).pages;
-        ranges = λ i. ranges_of (gtt i);
-        outside = outside-same;
-        live = lives;
+        changes = record {
+          number = λ i. number_of (gtt i);
+          frames = λ i. length (frames_of (gtt i)).pages;
+          ranges = λ i. ranges_of (gtt i);
+          outside = outside-same;
+          live = lives;
+        };
         copies = comes;
       };
       mmio = registers;

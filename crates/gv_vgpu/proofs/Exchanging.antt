@@ -343,10 +343,12 @@ module _ (d e : Device) (old new : Vgpu) (before after : ℕ → Bool) (engine :
   exchanges with own = record {
     holds = holds-then;
     device = private-same;
-    number = λ i. number_of (gtt i);
-    frames = λ i. length (frames_of (gtt i)).pages;
-    ranges = λ i. ranges_of (gtt i);
-    outside = outside-widen part part (guest_part guest (ranges_of old.gtt) with) d e (within with own) (within with own) goes.outside;
-    live = λ enough. (λ i. goes.live i + own_live old) ∙ (λ i. d.live + sym (own-same old new elements gtt) i);
+    changes = record {
+      number = λ i. number_of (gtt i);
+      frames = λ i. length (frames_of (gtt i)).pages;
+      ranges = λ i. ranges_of (gtt i);
+      outside = outside-widen part part (guest_part guest (ranges_of old.gtt) with) d e (within with own) (within with own) goes.outside;
+      live = λ enough. (λ i. goes.live i + own_live old) ∙ (λ i. d.live + sym (own-same old new elements gtt) i);
+    };
     copies = comes;
   }

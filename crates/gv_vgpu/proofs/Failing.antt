@@ -1,28 +1,27 @@
--- A guest that fails, or a call that stops, behind other calls.
-use Rattle.std.proofs.Common.{◌≡◌, ◌≢◌, ℕ, ◌<◌, ◌≤◌, Bool, true, Option, None, Some, length, refl, sym, ◌∙◌, subst}
+-- A guest that fails, behind other calls.
+use Rattle.std.proofs.Common.{◌≡◌, ◌≢◌, ℕ, ◌<◌, Bool, true, Option, None, Some, length, refl, sym, ◌∙◌, subst}
 use Rattle.gv_types.specs.Memory.{Memory}
-use Rattle.gv_types.specs.declared.ranges.Ranges.{Ranges}
 use Rattle.gv_types.specs.declared.reply.Reason.{Reason}
-use Rattle.gv_types.specs.declared.reply.Stop.{Stop}
 use Rattle.gv_element.specs.Works.{Held}
 use Rattle.gv_element.proofs.Beside.{stay-apart}
 use Rattle.gv_entry.specs.Ranges.{InParts}
-use Rattle.gv_gpu.specs.Device.{Device, counted, with_faults}
-use Rattle.gv_gpu.specs.Part.{guest_part, outside}
+use Rattle.gv_gpu.specs.Device.{Device}
+use Rattle.gv_gpu.specs.Part.{outside}
 use Rattle.gv_gtt.specs.Changes.{Changes}
 use Rattle.gv_gtt.specs.Gtt.{gtt_part, memory_of, number_of, ranges_of}
 use Rattle.gv_gtt.specs.Standing.{Stands}
 use Rattle.gv_gtt.proofs.Others.{changes_stay_inside}
 use Rattle.gv_mmio.specs.Mmio.{guest_of, ranges_of as mmio_ranges}
 use Rattle.gv_private.specs.Device.{fails, reset_device}
-use Rattle.gv_vgpu.specs.Changes.{Keeps, Makes, MayFail, Stops, own_live}
+use Rattle.gv_vgpu.specs.Changes.{Makes, MayFail, own_live}
 use Rattle.gv_vgpu.specs.Vgpu.{engine_at, private_of}
 use Rattle.gv_vgpu.specs.Standing.{Holds, Occupies, OccupiesOn, StandsOn}
 use Rattle.gv_vgpu.specs.declared.vgpu.Vgpu.{Vgpu}
 use Rattle.gv_vgpu.specs.declared.notice.Notice.{Notice}
 use Rattle.gv_vgpu.proofs.Copies.{comes-gone, none-at-work}
 use Rattle.gv_vgpu.proofs.Kept.{engine-same, idle-on, works-on}
-use Rattle.gv_vgpu.proofs.Same.{beside-same, moves-none, moves-then, moves-with-tables}
+use Rattle.gv_vgpu.proofs.Own.{changes-then}
+use Rattle.gv_vgpu.proofs.Same.{beside-same, moves-none, moves-with-tables}
 
 -- ---- what holds, occupies
 
@@ -49,11 +48,13 @@ holds-occupies d v here holds = record {
 pub holds-may-fail : (d : Device) (v : Vgpu) (here : ℕ → Bool) → Holds d v here → MayFail here d d v v (memory_of d v.gtt)
 holds-may-fail d v here holds = record {
   occupies = holds-occupies d v here holds;
-  number = refl;
-  frames = refl;
-  ranges = refl;
-  outside = refl;
-  live = moves-none d (own_live v) (own_live v) refl;
+  changes = record {
+    number = refl;
+    frames = refl;
+    ranges = refl;
+    outside = refl;
+    live = moves-none d (own_live v) (own_live v) refl;
+  };
   memory_is = refl;
 }
 
@@ -89,42 +90,17 @@ module _ (d e : Device) (old new : Vgpu) (here : ℕ → Bool) (holds : Holds d 
       sixteen = λ k n own above. (λ i. (changes.outside i).general k n) ∙ holds.sixteen k n own above;
       kept = λ k four. subst (λ x. length x.kept ≡ 16) (sym (same k)) (holds.kept k four);
     };
-    number = number-same;
-    frames = λ i. length (changes.frames i).pages;
-    ranges = changes.ranges;
-    outside = changes_stay_inside d e old.gtt new.gtt here changes;
-    live = moves-with-tables old new (λ k i. (same k i).element) d e (λ i. length (changes.frames i).pages) changes.live;
+    changes = record {
+      number = number-same;
+      frames = λ i. length (changes.frames i).pages;
+      ranges = changes.ranges;
+      outside = changes_stay_inside d e old.gtt new.gtt here changes;
+      live = moves-with-tables old new (λ k i. (same k i).element) d e (λ i. length (changes.frames i).pages) changes.live;
+    };
     memory_is = refl;
   }
 
 -- ---- one after another
-
--- what is outside of a guest's part, over two calls
-outside-then :
-    (here : ℕ → Bool) (d e f : Device) (a b : Vgpu) → number_of b.gtt ≡ number_of a.gtt → ranges_of b.gtt ≡ ranges_of a.gtt
-    → outside (guest_part (number_of a.gtt) (ranges_of a.gtt) here) e ≡ outside (guest_part (number_of a.gtt) (ranges_of a.gtt) here) d
-    → outside (guest_part (number_of b.gtt) (ranges_of b.gtt) here) f ≡ outside (guest_part (number_of b.gtt) (ranges_of b.gtt) here) e
-    → outside (guest_part (number_of a.gtt) (ranges_of a.gtt) here) f ≡ outside (guest_part (number_of a.gtt) (ranges_of a.gtt) here) d
-outside-then here d e f a b number ranges first second =
-    subst (λ (r : Ranges). outside (guest_part (number_of a.gtt) r here) f ≡ outside (guest_part (number_of a.gtt) r here) e) ranges
-    (subst (λ guest. outside (guest_part guest (ranges_of b.gtt) here) f ≡ outside (guest_part guest (ranges_of b.gtt) here) e) number second)
-    ∙ first
-
--- a call, and then one that stopped
-stopped-then :
-    (here : ℕ → Bool) (d e f : Device) (a b : Vgpu) (stop : Stop) → number_of b.gtt ≡ number_of a.gtt → ranges_of b.gtt ≡ ranges_of a.gtt
-    → outside (guest_part (number_of a.gtt) (ranges_of a.gtt) here) e ≡ outside (guest_part (number_of a.gtt) (ranges_of a.gtt) here) d → Stops here e f b stop → Stops here d f a stop
-stopped-then here d e f a b stop number ranges first second = record {
-  outside = outside-then here (with_faults d f.faults) (with_faults e f.faults) f a b number ranges (λ i. with_faults (first i) f.faults) second.outside;
-  cause = λ is. subst (λ faults. counted faults ≤ f.faults) (λ i. (first i).faults) (second.cause is);
-  memory = λ is. second.memory is ∙ (λ i. (first i).faults);
-}
-
-pub stops-then : (here : ℕ → Bool) (d e f : Device) (a b : Vgpu) (stop : Stop) → Keeps here d e a b → Stops here e f b stop → Stops here d f a stop
-stops-then here d e f a b stop first second = stopped-then here d e f a b stop first.number first.ranges first.outside second
-
-pub fail-stops-then : (here : ℕ → Bool) (d e f : Device) (a b : Vgpu) (m : Memory) (stop : Stop) → MayFail here d e a b m → Stops here e f b stop → Stops here d f a stop
-fail-stops-then here d e f a b m stop first second = stopped-then here d e f a b stop first.number first.ranges first.outside second
 
 -- A guest fails, and its private device does, of which only number, ranges and memory matter.
 pub fails-then :
@@ -136,17 +112,13 @@ fails-then here d e f a b c m reason notice number ranges first second = record 
       ∙ second.written;
   keeps = record {
     holds = second.keeps.holds;
-    number = second.keeps.number ∙ first.number;
-    frames = second.keeps.frames ∙ first.frames;
-    ranges = second.keeps.ranges ∙ first.ranges;
-    outside = outside-then here d e f a b first.number first.ranges first.outside second.keeps.outside;
-    live = moves-then d e f (own_live a) (own_live b) (own_live c) first.live second.keeps.live;
+    changes = changes-then here d e f a b c first.changes second.keeps.changes;
     copies = comes-gone d f a c (λ k. none-at-work f (number_of c.gtt) k (here k) (engine_at c k).element (λ i. ((sym second.written i).device.engines k).element));
   };
 }
   where
     same-number : guest_of a.mmio ≡ guest_of b.mmio
-    same-number = number ∙ sym first.number ∙ sym first.occupies.number
+    same-number = number ∙ sym first.changes.number ∙ sym first.occupies.number
 
     same-ranges : mmio_ranges a.mmio ≡ mmio_ranges b.mmio
-    same-ranges = ranges ∙ sym first.ranges ∙ sym first.occupies.ranges
+    same-ranges = ranges ∙ sym first.changes.ranges ∙ sym first.occupies.ranges

@@ -1,33 +1,27 @@
 -- A completion: the tail is written, the element is gone from its list, and status events follow.
-use Rattle.std.proofs.Common.{◌≡◌, ◌≢◌, ℕ, ◌+◌, ◌*◌, ◌/◌, ◌<◌, ◌==◌, Bool, true, false, Option, None, Some, List, length, slice_index_or, if◌then◌else◌, refl, sym, ◌∙◌, subst}
+use Rattle.std.proofs.Common.{◌≡◌, ◌≢◌, ℕ, ◌+◌, ◌*◌, ◌/◌, ◌<◌, ◌==◌, Bool, true, false, None, Some, List, length, if◌then◌else◌, refl, sym, ◌∙◌, subst}
 use Rattle.std.proofs.lemmas.Option.{none-some}
 use Rattle.gv_types.specs.Maps.{put}
 use Rattle.gv_types.specs.declared.event.Width.TheVariants.{Four}
 use Rattle.gv_csb.specs.Slots.{Execlists, completed, completion_events}
 use Rattle.gv_csb.specs.declared.status.Status.{Status}
-use Rattle.gv_element.specs.Works.{Held, HasNoPage, Works, left_of}
-use Rattle.gv_entry.specs.Ranges.{InParts}
-use Rattle.gv_entry.specs.SameTables.{has}
+use Rattle.gv_element.specs.Works.{Held}
 use Rattle.gv_gpu.specs.Device.{Device}
-use Rattle.gv_gtt.specs.Gtt.{frames_of, gtt_part, nodes_in, number_of, ranges_of, roots_in}
-use Rattle.gv_gtt.specs.Standing.{Translates}
+use Rattle.gv_gtt.specs.Gtt.{number_of}
 use Rattle.gv_mmio.specs.Mmio.{SameGuest, behind, ports_at}
 use Rattle.gv_private.specs.Device.{Engine as PrivateEngine, PrivateDevice, Working, front_context, with_element, with_slots}
 use Rattle.gv_private.specs.Grants.{frame_written, page_grant}
 use Rattle.gv_private.specs.Status.{events_given}
 use Rattle.gv_private.specs.Turn.{finished}
-use Rattle.gv_sring.specs.Window.{WindowIsAbsent}
-use Rattle.gv_turn.specs.Owned.{OwnsLeft}
-use Rattle.gv_vgpu.specs.Changes.{Keeps, Makes, own_live}
-use Rattle.gv_vgpu.specs.Vgpu.{engine_at, no_engine, private_of, working_in}
-use Rattle.gv_vgpu.specs.Standing.{Holds, IsAway, StandsOn}
+use Rattle.gv_vgpu.specs.Changes.{Keeps, Makes}
+use Rattle.gv_vgpu.specs.Vgpu.{engine_at, private_of, working_in}
+use Rattle.gv_vgpu.specs.Standing.{Holds}
 use Rattle.gv_vgpu.specs.Turn.{Completes, EndOf, front_tail_written}
 use Rattle.gv_vgpu.specs.declared.notice.Notice.{Notice}
 use Rattle.gv_vgpu.specs.declared.vgpu.Vgpu.{Vgpu}
-use Rattle.gv_vgpu.proofs.Copies.{comes-none, none-at-work}
+use Rattle.gv_vgpu.proofs.Copies.{none-at-work}
 use Rattle.gv_vgpu.proofs.General.{put-other, put-own}
-use Rattle.gv_vgpu.proofs.Registers.{keeps-then, registers-moved}
-use Rattle.gv_vgpu.proofs.Same.{beside-same, moves-none, own-same}
+use Rattle.gv_vgpu.proofs.Registers.{keeps-then, moved-keeps, registers-moved}
 
 -- ---- the private device
 
@@ -74,52 +68,19 @@ module _ (d : Device) (old new : Vgpu) (here : ℕ → Bool) (engine : ℕ) (s :
   pub shifted-private : private_of d new here ≡ with_slots (private_of d old here) engine s
   shifted-private = registers-moved d old new here holds gtt engines failsafe ∙ shifted (private_of d old here)
 
-  engine-same : (k : ℕ) → engine_at new k ≡ engine_at old k
-  engine-same k = λ i. slice_index_or (engines i) k no_engine
-
   slots-same : (k : ℕ) → k ≢ engine → (ports_at new.mmio k).slots ≡ (ports_at old.mmio k).slots
   slots-same k differ =
       let p : PrivateDevice = private_of d old here in
       (λ i. ((shifted p i).engines k).slots) ∙ (λ i. (put-other (behind p old.mmio).engines engine k (record ((behind p old.mmio).engines engine) { slots = s }) differ i).slots)
 
-  stands-shifted : (k : ℕ) (element : Option Held) → (engine_at old k).element ≡ element → StandsOn d old k (here k) element → StandsOn d new k (here k) element
-  stands-shifted k None at stands = record { window = subst (λ g. WindowIsAbsent d (number_of g) k) (sym gtt) stands.window; idle = stands.idle }
-  stands-shifted k (Some x) at stands = record {
-    root_page = stands.root_page;
-    root = subst (λ g. has (roots_in g) x.root ≡ true) (sym gtt) stands.root;
-    shadow_root = subst (λ g. nodes_in g 4 x.root ≡ Some stands.root_page) (sym gtt) stands.shadow_root;
-    works = subst (λ g. Works d (number_of g) k (here k) stands.root_page x) (sym gtt) stands.works;
-    owned = subst (λ g. OwnsLeft (ranges_of g) (left_of d (number_of g) k (here k))) (sym gtt) stands.owned;
-    apart = subst (λ g. HasNoPage (gtt_part g) x.window) (sym gtt) stands.apart;
-    running = subst (λ slots. 0 < length slots.running) (sym (slots-same k differ)) stands.running;
-    awake = failsafe ∙ stands.awake;
-  }
+  still-run : (k : ℕ) (x : Held) → (engine_at old k).element ≡ Some x → 0 < length (ports_at old.mmio k).slots.running → 0 < length (ports_at new.mmio k).slots.running
+  still-run k x at runs = subst (λ slots. 0 < length slots.running) (sym (slots-same k differ)) runs
     where
       differ : k ≢ engine
       differ is = none-some x (sym (subst (λ n. (engine_at old n).element ≡ None) (sym is) none) ∙ at)
 
   pub shifted-keeps : Keeps here d d old new
-  shifted-keeps = record {
-    holds = record {
-      translates = subst (λ g. Translates d g) (sym gtt) holds.translates;
-      parts = subst (λ g. InParts (ranges_of g)) (sym gtt) holds.parts;
-      number = same.guest ∙ holds.number ∙ (λ i. number_of (sym gtt i));
-      ranges = same.ranges ∙ holds.ranges ∙ (λ i. ranges_of (sym gtt i));
-      below = subst (λ g. number_of g < 8) (sym gtt) holds.below;
-      engines = λ k four. subst (λ x. StandsOn d new k (here k) x.element) (sym (engine-same k)) (stands-shifted k (engine_at old k).element refl (holds.engines k four));
-      beside = beside-same old new (λ k i. (engine-same k i).element) holds.beside;
-      away = subst (λ g. IsAway d (number_of g) here) (sym gtt) holds.away;
-      none_above = holds.none_above;
-      sixteen = holds.sixteen;
-      kept = λ k four. subst (λ x. length x.kept ≡ 16) (sym (engine-same k)) (holds.kept k four);
-    };
-    number = λ i. number_of (gtt i);
-    frames = λ i. length (frames_of (gtt i)).pages;
-    ranges = λ i. ranges_of (gtt i);
-    outside = refl;
-    live = moves-none d (own_live old) (own_live new) (own-same old new (λ k i. (engine-same k i).element) gtt);
-    copies = comes-none d old new (λ k i. (engine-same k i).element);
-  }
+  shifted-keeps = moved-keeps d old new here holds gtt engines failsafe same still-run
 
 -- ---- all of it
 

@@ -144,11 +144,13 @@ module _ (d : Device) (v : Vgpu) (here : ℕ → Bool) (holds : Holds d v here) 
       sixteen = no-seventeenth;
       kept = holds.kept;
     };
-    number = refl;
-    frames = refl;
-    ranges = refl;
-    outside = λ i. record (outside (guest_part (number_of v.gtt) (ranges_of v.gtt) here) d) { general = λ k. outside-after k i };
-    live = λ enough. refl;
+    changes = record {
+      number = refl;
+      frames = refl;
+      ranges = refl;
+      outside = λ i. record (outside (guest_part (number_of v.gtt) (ranges_of v.gtt) here) d) { general = λ k. outside-after k i };
+      live = λ enough. refl;
+    };
     copies = λ k x is. (is, λ j two within. refl);
   }
 
@@ -226,10 +228,12 @@ module _ (d : Device) (old new : Vgpu) (here : ℕ → Bool) (holds : Holds d ol
       sixteen = holds.sixteen;
       kept = still-sixteen;
     };
-    number = λ i. number_of (gtt i);
-    frames = λ i. length (frames_of (gtt i)).pages;
-    ranges = λ i. ranges_of (gtt i);
-    outside = refl;
-    live = moves-none d (own_live old) (own_live new) (own-same old new same-element gtt);
+    changes = record {
+      number = λ i. number_of (gtt i);
+      frames = λ i. length (frames_of (gtt i)).pages;
+      ranges = λ i. ranges_of (gtt i);
+      outside = refl;
+      live = moves-none d (own_live old) (own_live new) (own-same old new same-element gtt);
+    };
     copies = comes-none d old new same-element;
   }

@@ -3,6 +3,7 @@ mod First
 mod Engines
 pub mod Copies
 mod Same
+mod Own
 mod Failing
 mod Staying
 mod Clearing

@@ -388,13 +388,15 @@ module _ (d e : Device) (old : Vgpu) (engines : List Engine) (count : length eng
   pub load-keeps-all : MayLoad here d e old new
   load-keeps-all = record {
     holds = holds-now;
-    number = refl;
-    frames = refl;
-    ranges = refl;
-    outside =
-        outside-widen (element_part guest engine []) (element_part guest engine x.window.pages) (guest_part guest (ranges_of old.gtt) here) d e
-        (load-within guest engine [] (ranges_of old.gtt) here four own) (load-within guest engine x.window.pages (ranges_of old.gtt) here four own) loads.outside;
-    live = live-now;
+    changes = record {
+      number = refl;
+      frames = refl;
+      ranges = refl;
+      outside =
+          outside-widen (element_part guest engine []) (element_part guest engine x.window.pages) (guest_part guest (ranges_of old.gtt) here) d e
+          (load-within guest engine [] (ranges_of old.gtt) here four own) (load-within guest engine x.window.pages (ranges_of old.gtt) here four own) loads.outside;
+      live = live-now;
+    };
     copies = copies-stay;
   }
 

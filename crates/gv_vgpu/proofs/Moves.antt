@@ -141,11 +141,13 @@ module _
         sixteen = λ k n own above. (λ i. (changes.outside i).general k n) ∙ holds.sixteen k n own above;
         kept = λ k four. subst (λ x. length x.kept ≡ 16) (sym (engine-same k)) (holds.kept k four);
       };
-      number = number;
-      frames = frames;
-      ranges = ranges;
-      outside = changes_stay_inside d e old.gtt old.gtt here of-frames;
-      live = λ enough i. changes.live i + sym pages-as i;
+      changes = record {
+        number = number;
+        frames = frames;
+        ranges = ranges;
+        outside = changes_stay_inside d e old.gtt old.gtt here of-frames;
+        live = λ enough i. changes.live i + sym pages-as i;
+      };
       copies = comes-tables d e old new here (gtt_part old.gtt) holds of-frames.outside (λ k i. (engine-same k i).element);
     }
 

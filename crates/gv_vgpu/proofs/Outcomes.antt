@@ -27,14 +27,15 @@ use Rattle.gv_fetch.specs.Left.{is_done, stands_of}
 use Rattle.gv_cmd.specs.Allowed.{is_allowed}
 use Rattle.gv_cmd.specs.Command.{decoded}
 use Rattle.gv_cmd.specs.declared.command.Unlisted.{Unlisted}
-use Rattle.gv_vgpu.specs.Changes.{Keeps, Makes, Stops, Turns, injected}
+use Rattle.gv_vgpu.specs.Changes.{ChangesOwn, Makes, Stops, Turns, injected}
 use Rattle.gv_vgpu.specs.Vgpu.{element_in, engine_at, no_engine, private_of, working_in}
 use Rattle.gv_vgpu.specs.Standing.{Holds, Occupies}
 use Rattle.gv_vgpu.specs.Turn.{Completes, HasEnded, Made, StepsOnce}
 use Rattle.gv_vgpu.specs.declared.engine.Engine.{Engine}
 use Rattle.gv_vgpu.specs.declared.vgpu.Vgpu.{Vgpu}
 use Rattle.gv_vgpu.specs.declared.notice.Notice.{Notice}
-use Rattle.gv_vgpu.proofs.Failing.{holds-occupies, stops-then}
+use Rattle.gv_vgpu.proofs.Failing.{holds-occupies}
+use Rattle.gv_vgpu.proofs.Own.{stops-then}
 use Rattle.gv_vgpu.proofs.Running.{ran-holds, ran-turns}
 use Rattle.gv_vgpu.proofs.Stepped.{Alike, awake, ended-turns, failed-turns, has-ended, keeps-none, never-idle, none-ran, runs-alike, spared-holds, spared-keeps, spared-turns, unlisted-same, waited-turns}
 
@@ -110,7 +111,7 @@ module _ (d : Device) (v : Vgpu) (here : ℕ → Bool) (engine : ℕ) (holds : H
         spared-turns d made.room v here holds engine g new outcomes.Failed notice (failed-turns f e v here engine x spared four own is made.after_is (answered steps.Unlisted at) g new notice fail)
 
     pub step-failed-stops : (g : Device) (stop : Stop) → Stops here e g v stop → Stops here d g v stop
-    step-failed-stops g stop stops = stops-then here d e g v v stop (subst (λ e. Keeps here d e v v) (sym same) (spared-keeps d made.room v here holds)) stops
+    step-failed-stops g stop stops = stops-then here d e g v v stop (subst (λ e. ChangesOwn here d e v v) (sym same) (spared-keeps d made.room v here holds).changes) stops
 
   pub step-ran-turns :
       (command : List ℕ) (raise : ℕ) (new : Vgpu) (irq : Option ℕ) → answer ≡ steps.Ran command raise → slice_index command 1 < 2 ^ 32

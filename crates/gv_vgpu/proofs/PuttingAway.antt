@@ -6,17 +6,15 @@ use Rattle.std.proofs.lemmas.List.{get_or_past}
 use Rattle.gv_types.specs.Maps.{put}
 use Rattle.gv_ctx.specs.Saved.{fields_of}
 use Rattle.gv_element.specs.Works.{Held, Works, WorksWith, context_now, left_of}
-use Rattle.gv_element.proofs.Away.{stopped-unloads, stopped-works}
+use Rattle.gv_element.proofs.Away.{is-put-away, stopped-unloads, stopped-works}
 use Rattle.gv_gpu.specs.Context.{stopped, stopped_with}
 use Rattle.gv_gpu.specs.Device.{Device, Loaded, with_loaded}
 use Rattle.gv_gpu.specs.Part.{context_part, engine_part, is_shadow_of, outside, shadow_label}
 use Rattle.gv_gtt.specs.Gtt.{number_of}
-use Rattle.gv_sctx.specs.Context.{HasImage}
 use Rattle.gv_sctx.proofs.Dwords.{fields_in}
-use Rattle.gv_sctx.proofs.Saving.{stopped-is, with_words}
+use Rattle.gv_sctx.proofs.Saving.{with_words}
 use Rattle.gv_sring.specs.Window.{page_at}
 use Rattle.gv_sring.proofs.Named.{shadow-own}
-use Rattle.gv_sring.proofs.WindowReads.{shows-image}
 use Rattle.gv_switch.specs.Exchange.{AreRegisters}
 use Rattle.gv_vgpu.specs.Exchange.{Exchanges, HasSixteen, owning}
 use Rattle.gv_vgpu.specs.Vgpu.{engine_at}
@@ -67,15 +65,8 @@ module _ (d : Device) (guest engine root_page : ℕ) (x : Held) (works : Works d
   abbrev words : List ℕ
   words = fields_in (d.words image) (fields_of l.place) 7
 
-  has : HasImage d l.owner l.descriptor image
-  has =
-      let small_guest : x.window.guest < 8 = (let a = works.window.guest_is in let b = works.window.guest_below in omega arith) in
-      let small_engine : x.window.engine < 4 = (let a = works.window.engine_is in let b = works.window.engine_below in omega arith) in
-      let P : ℕ → ℕ → Type 0 = λ g n. HasImage d g n image in
-      subst (λ g. P g l.descriptor) (sym works.runs.context.owner) (subst (P x.window.guest) (sym works.runs.context.descriptor) (shows-image d x.window small_guest small_engine works.window.two works.runs.shows))
-
   stopped-so : stopped d engine ≡ with_loaded (with_words d image words) engine None
-  stopped-so = stopped-is d image engine l (works.loaded refl) has works.runs.small
+  stopped-so = is-put-away d guest engine root_page x works
 
   image-own : is_shadow_of guest (d.label image) ≡ true
   image-own =

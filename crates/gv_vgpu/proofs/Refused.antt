@@ -1,29 +1,27 @@
 -- Loads that are refused, behind what was done before.
 use Rattle.std.proofs.Common.{◌≡◌, ℕ, Bool, Result, Ok, Err, List, refl, sym, ◌∙◌, subst}
 use Rattle.gv_types.specs.Memory.{Memory}
-use Rattle.gv_types.specs.declared.ranges.Ranges.{Ranges}
 use Rattle.gv_types.specs.declared.reply.Reason.{Reason}
 use Rattle.gv_ctx.specs.declared.descriptor.Descriptor.{Descriptor}
 use Rattle.gv_ctx.specs.declared.image.Image.{Image}
 use Rattle.gv_ctx.specs.Descriptor.{descriptor_of}
 use Rattle.gv_fetch.specs.Fetch.{fetched}
 use Rattle.gv_gpu.specs.Device.{Device}
-use Rattle.gv_gpu.specs.Part.{guest_part, outside}
-use Rattle.gv_gtt.specs.Gtt.{memory_of, number_of, over, ranges_of}
+use Rattle.gv_gtt.specs.Gtt.{memory_of, over}
 use Rattle.gv_private.specs.Device.{PrivateDevice}
 use Rattle.gv_private.specs.Load.{fetched_into, global_space, loaded}
 use Rattle.gv_private.specs.Roots.{announced}
 use Rattle.gv_scan.specs.Scan.{Scanned}
-use Rattle.gv_vgpu.specs.Changes.{Keeps, MayFail, Stops, own_live}
+use Rattle.gv_vgpu.specs.Changes.{Keeps, MayFail, Stops}
 use Rattle.gv_vgpu.specs.Loading.{NotFetched, Refuses, image_found}
 use Rattle.gv_vgpu.specs.Vgpu.{private_of}
 use Rattle.gv_vgpu.specs.Standing.{Holds}
 use Rattle.gv_vgpu.specs.declared.load.Refusal.{Refusal}
 use Rattle.gv_vgpu.specs.declared.load.Refusal.TheVariants.{Fails, Stopped}
 use Rattle.gv_vgpu.specs.declared.vgpu.Vgpu.{Vgpu}
-use Rattle.gv_vgpu.proofs.Failing.{holds-may-fail, stops-then}
+use Rattle.gv_vgpu.proofs.Failing.{holds-may-fail}
+use Rattle.gv_vgpu.proofs.Own.{changes-then, stops-then}
 use Rattle.gv_vgpu.proofs.Announced.{lacks-memory}
-use Rattle.gv_vgpu.proofs.Same.{moves-then}
 use Rattle.gv_vgpu.proofs.Steps.{announced-memory, goes_on, with-image, with-root, without-image, without-items, without-root}
 use Rattle.gv_vgpu.proofs.Working.{over-private}
 
@@ -31,14 +29,7 @@ use Rattle.gv_vgpu.proofs.Working.{over-private}
 kept-may-fail : (here : ℕ → Bool) (d e f : Device) (a b c : Vgpu) (m : Memory) → Keeps here d e a b → MayFail here e f b c m → MayFail here d f a c m
 kept-may-fail here d e f a b c m first second = record {
   occupies = second.occupies;
-  number = second.number ∙ first.number;
-  frames = second.frames ∙ first.frames;
-  ranges = second.ranges ∙ first.ranges;
-  outside =
-      subst (λ (ranges : Ranges). outside (guest_part (number_of a.gtt) ranges here) f ≡ outside (guest_part (number_of a.gtt) ranges here) e) first.ranges
-      (subst (λ guest. outside (guest_part guest (ranges_of b.gtt) here) f ≡ outside (guest_part guest (ranges_of b.gtt) here) e) first.number second.outside)
-      ∙ first.outside;
-  live = moves-then d e f (own_live a) (own_live b) (own_live c) first.live second.live;
+  changes = changes-then here d e f a b c first.changes second.changes;
   memory_is = second.memory_is;
 }
 
@@ -56,7 +47,7 @@ pub refused-then :
     (here : ℕ → Bool) (d e f : Device) (a b c : Vgpu) (outcome : Result PrivateDevice Reason) (refusal : Refusal) → Keeps here d e a b → memory_of e b.gtt ≡ memory_of d a.gtt → Refuses here e f b c outcome refusal → Refuses here d f a c outcome refusal
 refused-then here d e f a b c outcome (Fails reason) first memory refused =
     (refused.0, subst (λ m. MayFail here d f a c m) memory (kept-may-fail here d e f a b c (memory_of e b.gtt) first refused.1))
-refused-then here d e f a b c outcome (Stopped stop) first memory refused = stops-then here d e f a b stop first refused
+refused-then here d e f a b c outcome (Stopped stop) first memory refused = stops-then here d e f a b stop first.changes refused
 
 -- ---- the steps of a load
 

@@ -17,6 +17,7 @@ use Rattle.gv_vgpu.specs.Standing.{Occupies}
 use Rattle.gv_vgpu.specs.declared.vgpu.Vgpu.{Vgpu}
 use Rattle.gv_vgpu.proofs.Copies.{comes-none, comes-then}
 use Rattle.gv_vgpu.proofs.Resets.{one-reset}
+use Rattle.gv_vgpu.proofs.Own.{outside-then}
 use Rattle.gv_vgpu.proofs.Same.{moves-none, moves-then}
 
 or-second : (a b : Bool) → (a || b) ≡ true → b ≡ false → a ≡ true
@@ -47,14 +48,6 @@ none-reset here d v occupies = record {
   copies = comes-none d v v (λ k. refl);
 }
 
--- what is outside of a guest's part, over two calls that keep its memory and tables
-outside-then :
-    (here : ℕ → Bool) (d e f : Device) (a b : Vgpu) → b.gtt ≡ a.gtt
-    → outside (guest_part (number_of a.gtt) (ranges_of a.gtt) here) e ≡ outside (guest_part (number_of a.gtt) (ranges_of a.gtt) here) d
-    → outside (guest_part (number_of b.gtt) (ranges_of b.gtt) here) f ≡ outside (guest_part (number_of b.gtt) (ranges_of b.gtt) here) e
-    → outside (guest_part (number_of a.gtt) (ranges_of a.gtt) here) f ≡ outside (guest_part (number_of a.gtt) (ranges_of a.gtt) here) d
-outside-then here d e f a b gtt first second = subst (λ g. outside (guest_part (number_of g) (ranges_of g) here) f ≡ outside (guest_part (number_of g) (ranges_of g) here) e) gtt second ∙ first
-
 module _ (p q here : ℕ → Bool) (d e f : Device) (a b c : Vgpu) (first : AreReset p here d e a b) (second : AreReset q here e f b c) where
   own-then : (k : ℕ) (x : Bool) → q k ≡ x → k < 4 → (p k || x) ≡ true → engine_at c k ≡ zero_engine
   own-then k true is below same = second.own k below is
@@ -82,7 +75,7 @@ module _ (p q here : ℕ → Bool) (d e f : Device) (a b c : Vgpu) (first : AreR
     occupies = second.occupies;
     translates = λ translates. second.translates (first.translates translates);
     memory = (λ i. memory_of f (sym first.gtt i)) ∙ second.memory ∙ (λ i. memory_of e (first.gtt i)) ∙ first.memory;
-    outside = outside-then here d e f a b first.gtt first.outside second.outside;
+    outside = outside-then here d e f a b (λ i. number_of (first.gtt i)) (λ i. ranges_of (first.gtt i)) first.outside second.outside;
     live = moves-then d e f (own_live a) (own_live b) (own_live c) first.live second.live;
     copies = comes-then d e f a b c first.copies second.copies;
   }

@@ -108,11 +108,7 @@ module _ (d e : Device) (old new : Vgpu) (here : ℕ → Bool) (holds : Holds d 
       sixteen = left.occupies.sixteen;
       kept = left.occupies.kept;
     };
-    number = left.number;
-    frames = left.frames;
-    ranges = left.ranges;
-    outside = left.outside;
-    live = left.live;
+    changes = left.changes;
     copies = comes-tables d e old new here (gtt_part new.gtt) holds changes.outside (λ k i. (engine-same d e old new here holds changes registers engines failsafe k i).element);
   }
     where

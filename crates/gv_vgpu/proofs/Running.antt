@@ -204,13 +204,15 @@ module _ (d : Device) (v : Vgpu) (here : ℕ → Bool) (engine : ℕ) (x : Held)
   ran-keeps : Keeps here (journalled d ran) after v v
   ran-keeps = record {
     holds = ran-holds;
-    number = refl;
-    frames = refl;
-    ranges = refl;
-    outside =
-        outside-widen (step_part number engine) (step_part number engine) (guest_part number (ranges_of v.gtt) here) (journalled d ran) after
-        (step-within number (ranges_of v.gtt) here engine own) (step-within number (ranges_of v.gtt) here engine own) runs.device.outside;
-    live = λ enough i. runs.device.live i + own_live v;
+    changes = record {
+      number = refl;
+      frames = refl;
+      ranges = refl;
+      outside =
+          outside-widen (step_part number engine) (step_part number engine) (guest_part number (ranges_of v.gtt) here) (journalled d ran) after
+          (step-within number (ranges_of v.gtt) here engine own) (step-within number (ranges_of v.gtt) here engine own) runs.device.outside;
+      live = λ enough i. runs.device.live i + own_live v;
+    };
     copies = comes-each d after v v here holds (λ k. refl) (λ k y below at other j two within. (keeps-window y.window other.works.window.guest_is other.works.runs.shows).words j within);
   }
 

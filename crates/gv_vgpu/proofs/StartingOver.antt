@@ -124,11 +124,13 @@ module _ (named : List Bool) (here : ℕ → Bool) (d e : Device) (old new : Vgp
       sixteen = r.occupies.sixteen;
       kept = r.occupies.kept;
     };
-    number = λ i. number_of (r.gtt i);
-    frames = λ i. length (frames_of (r.gtt i)).pages;
-    ranges = λ i. ranges_of (r.gtt i);
-    outside = r.outside;
-    live = r.live;
+    changes = record {
+      number = λ i. number_of (r.gtt i);
+      frames = λ i. length (frames_of (r.gtt i)).pages;
+      ranges = λ i. ranges_of (r.gtt i);
+      outside = r.outside;
+      live = r.live;
+    };
     copies = r.copies;
   }
 
@@ -209,10 +211,12 @@ module _ (here : ℕ → Bool) (d e f : Device) (old mid new : Vgpu) (failsafe :
       sixteen = λ k n own above. zeros-now k own n;
       kept = λ k below. ap (λ (e : Engine). length e.kept) (engine-same k) ∙ r.occupies.kept k below;
     };
-    number = number-same;
-    frames = frames-same ∙ (λ i. length (frames_of (r.gtt i)).pages);
-    ranges = ranges-same;
-    outside = subst (λ g. outside (guest_part (number_of g) (ranges_of g) here) f ≡ outside (guest_part (number_of g) (ranges_of g) here) e) r.gtt (changes_stay_inside e f mid.gtt new.gtt here changes) ∙ r.outside;
-    live = moves-then d e f (own_live old) (own_live mid) (own_live new) r.live (moves-with-tables mid new (λ k i. (engine-same k i).element) e f frames-same changes.live);
+    changes = record {
+      number = number-same;
+      frames = frames-same ∙ (λ i. length (frames_of (r.gtt i)).pages);
+      ranges = ranges-same;
+      outside = subst (λ g. outside (guest_part (number_of g) (ranges_of g) here) f ≡ outside (guest_part (number_of g) (ranges_of g) here) e) r.gtt (changes_stay_inside e f mid.gtt new.gtt here changes) ∙ r.outside;
+      live = moves-then d e f (own_live old) (own_live mid) (own_live new) r.live (moves-with-tables mid new (λ k i. (engine-same k i).element) e f frames-same changes.live);
+    };
     copies = comes-gone d f old new none-at;
   }

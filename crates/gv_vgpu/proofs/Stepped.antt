@@ -119,7 +119,7 @@ module _ (d : Device) (v : Vgpu) (here : ℕ → Bool) (engine : ℕ) (x : Held)
 -- ---- the turn, by the engine's answer
 
 pub keeps-none : (d : Device) (v : Vgpu) (here : ℕ → Bool) → Holds d v here → Keeps here d d v v
-keeps-none d v here holds = record { holds = holds; number = refl; frames = refl; ranges = refl; outside = refl; live = λ enough. refl; copies = comes-none d v v (λ k. refl) }
+keeps-none d v here holds = record { holds = holds; changes = record { number = refl; frames = refl; ranges = refl; outside = refl; live = λ enough. refl }; copies = comes-none d v v (λ k. refl) }
 
 -- no command ran
 pub none-ran : (here : ℕ → Bool) (d e : Device) (old new : Vgpu) (ran : List PrivateEntry) → ran ≡ [] → Keeps here d e old new → MayLoad here (journalled d ran) e old new
@@ -186,7 +186,7 @@ module _ (d : Device) (room : ℕ) (v : Vgpu) (here : ℕ → Bool) (holds : Hol
   spared-private = private-still d (with_spare d room) v here holds refl
 
   pub spared-keeps : Keeps here d (with_spare d room) v v
-  spared-keeps = record { holds = spared-holds; number = refl; frames = refl; ranges = refl; outside = refl; live = λ enough. refl; copies = λ k x is. (is, λ j two within. refl) }
+  spared-keeps = record { holds = spared-holds; changes = record { number = refl; frames = refl; ranges = refl; outside = refl; live = λ enough. refl }; copies = λ k x is. (is, λ j two within. refl) }
 
   pub spared-turns : (engine : ℕ) (e : Device) (new : Vgpu) (outcome : Outcome) (notice : Notice) → Turns here (with_spare d room) e v new (turned (private_of (with_spare d room) v here) engine) outcome notice
       → Turns here d e v new (turned (private_of d v here) engine) outcome notice
@@ -197,11 +197,13 @@ module _ (d : Device) (room : ℕ) (v : Vgpu) (here : ℕ → Bool) (holds : Hol
         left = same.left;
         keeps = record {
           holds = same.keeps.holds;
-          number = same.keeps.number;
-          frames = same.keeps.frames;
-          ranges = same.keeps.ranges;
-          outside = same.keeps.outside;
-          live = same.keeps.live;
+          changes = record {
+            number = same.keeps.changes.number;
+            frames = same.keeps.changes.frames;
+            ranges = same.keeps.changes.ranges;
+            outside = same.keeps.changes.outside;
+            live = same.keeps.changes.live;
+          };
           copies = same.keeps.copies;
         };
       }

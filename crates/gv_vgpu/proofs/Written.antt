@@ -23,11 +23,13 @@ module _ (d e : Device) (old new : Vgpu) (here : ℕ → Bool) (holds : Holds d 
   pub keeps-after : Translates e new.gtt → KeepsRoots old.gtt new.gtt → Keeps here d e old new
   keeps-after translates roots = record {
     holds = holds-after d e old new here holds changes registers engines failsafe translates roots;
-    number = λ i. (changes.frames i).guest;
-    frames = frames-same;
-    ranges = changes.ranges;
-    outside = changes_stay_inside d e old.gtt new.gtt here changes;
-    live = moves-with-tables old new (λ k i. (slice_index_or (engines i) k no_engine).element) d e frames-same changes.live;
+    changes = record {
+      number = λ i. (changes.frames i).guest;
+      frames = frames-same;
+      ranges = changes.ranges;
+      outside = changes_stay_inside d e old.gtt new.gtt here changes;
+      live = moves-with-tables old new (λ k i. (slice_index_or (engines i) k no_engine).element) d e frames-same changes.live;
+    };
     copies = comes-tables d e old new here (gtt_part new.gtt) holds changes.outside (λ k i. (slice_index_or (engines i) k no_engine).element);
   }
     where

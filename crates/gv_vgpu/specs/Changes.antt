@@ -39,26 +39,26 @@ LiveMoves d e before after = before ≤ d.live → e.live + before ≡ d.live + 
 
 -- ---- a call
 
--- It holds again, over as many frames and the same ranges of the same guest. Nothing of the shared device changed but
--- the guest's own part, and live pages move with the guest's own. No element came, and the copies of those that stay at
--- work are as they were.
-pub record Keeps (here : ℕ → Bool) (d e : Device) (old new : Vgpu) : Type 0 where
-  pub holds : Holds e new here
+-- It changes what is the guest's own alone, with these engines: the device is of the same guest, with as many frames and the
+-- same ranges; nothing of the shared device changed but the guest's part; and live pages move with the guest's own.
+pub record ChangesOwn (engines : ℕ → Bool) (d e : Device) (old new : Vgpu) : Type 0 where
   pub number : number_of new.gtt ≡ number_of old.gtt
   pub frames : length (frames_of new.gtt).pages ≡ length (frames_of old.gtt).pages
   pub ranges : ranges_of new.gtt ≡ ranges_of old.gtt
-  pub outside : outside (guest_part (number_of old.gtt) (ranges_of old.gtt) here) e ≡ outside (guest_part (number_of old.gtt) (ranges_of old.gtt) here) d
+  pub outside : outside (guest_part (number_of old.gtt) (ranges_of old.gtt) engines) e ≡ outside (guest_part (number_of old.gtt) (ranges_of old.gtt) engines) d
   pub live : LiveMoves d e (own_live old) (own_live new)
+
+-- It holds again, and changed what is the guest's own. No element came, and the copies of those that stay at work are as
+-- they were.
+pub record Keeps (here : ℕ → Bool) (d e : Device) (old new : Vgpu) : Type 0 where
+  pub holds : Holds e new here
+  pub changes : ChangesOwn here d e old new
   pub copies : NoneComes d e old new
 
 -- The same of a call that may put an element to work: those that stay have the copies that they had.
 pub record MayLoad (here : ℕ → Bool) (d e : Device) (old new : Vgpu) : Type 0 where
   pub holds : Holds e new here
-  pub number : number_of new.gtt ≡ number_of old.gtt
-  pub frames : length (frames_of new.gtt).pages ≡ length (frames_of old.gtt).pages
-  pub ranges : ranges_of new.gtt ≡ ranges_of old.gtt
-  pub outside : outside (guest_part (number_of old.gtt) (ranges_of old.gtt) here) e ≡ outside (guest_part (number_of old.gtt) (ranges_of old.gtt) here) d
-  pub live : LiveMoves d e (own_live old) (own_live new)
+  pub changes : ChangesOwn here d e old new
   pub copies : CopiesStay d e old new
 
 -- It keeps that, and makes of the private device what this says, with these notices to the guest.
@@ -73,11 +73,7 @@ injected irq = record { irq = irq; failsafe = None }
 -- What a call leaves after which the guest is to fail: it still occupies its part of the device, and its memory is this.
 pub record MayFail (here : ℕ → Bool) (d e : Device) (old new : Vgpu) (memory : Memory) : Type 0 where
   pub occupies : Occupies e new here
-  pub number : number_of new.gtt ≡ number_of old.gtt
-  pub frames : length (frames_of new.gtt).pages ≡ length (frames_of old.gtt).pages
-  pub ranges : ranges_of new.gtt ≡ ranges_of old.gtt
-  pub outside : outside (guest_part (number_of old.gtt) (ranges_of old.gtt) here) e ≡ outside (guest_part (number_of old.gtt) (ranges_of old.gtt) here) d
-  pub live : LiveMoves d e (own_live old) (own_live new)
+  pub changes : ChangesOwn here d e old new
   pub memory_is : memory_of e new.gtt ≡ memory
 
 -- what the guest is replied

@@ -20,7 +20,7 @@ const CONTEXT_SWITCH: u8 = 8;
 
 impl Vgpu {
     /// Raises a bit of an engine's sixteen. Where an interrupt is injected, it answers IIR of its group.
-    pub fn raise(&mut self, engine: EngineId, bit: u8) -> Option<u32>
+    pub(crate) fn raise(&mut self, engine: EngineId, bit: u8) -> Option<u32>
         requires engine { engine.0 < 4 }
         requires bit { bit < 16 }
         ensures { (d : Device) (here : ℕ → Bool) → Holds d self.old here → Makes here d d self.old self.new (bit_raised (private_of d self.old here) engine.0 bit) (injected result) }
@@ -76,7 +76,7 @@ impl Vgpu {
 
     /// Gives a status event: it goes into the engine's ring and to its status page, and the context switch bit is
     /// raised. Where an interrupt is injected, it answers IIR of its group.
-    pub fn give_event<G: Gpu>(
+    pub(crate) fn give_event<G: Gpu>(
         &mut self,
         gpu: &mut G,
         here: [bool; 4],

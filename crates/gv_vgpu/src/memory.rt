@@ -20,7 +20,7 @@ use gv_types::{Place, Reason, Stop, Width};
 impl Vgpu {
     /// Writes memory. A guest by whose write a live table has a bad entry fails, and what was written stays. Where the
     /// frame is no live table, and outside of memory, the call takes no memory and makes no use of an engine.
-    pub fn write_memory<G: Gpu>(
+    pub(crate) fn write_memory<G: Gpu>(
         &mut self,
         gpu: &mut G,
         here: [bool; 4],

@@ -143,7 +143,7 @@ impl Vgpu {
 
     /// Writes a value that a guest's access writes, by the engines that the guest owns. In failsafe registers and
     /// aperture aren't written.
-    pub fn write<G: Gpu>(
+    pub(crate) fn write<G: Gpu>(
         &mut self,
         gpu: &mut G,
         here: [bool; 4],

@@ -18,7 +18,14 @@ pub(crate) const TABLE_AT: u64 = 0x80_0000;
 impl Vgpu {
     /// Reads a value that a guest's access reads, by the engines that the guest owns. In failsafe registers and aperture
     /// read 0.
-    pub fn read<G: Gpu>(&self, gpu: &G, here: [bool; 4], place: Place, width: Width, at: u64) -> u64
+    pub(crate) fn read<G: Gpu>(
+        &self,
+        gpu: &G,
+        here: [bool; 4],
+        place: Place,
+        width: Width,
+        at: u64,
+    ) -> u64
         requires holds { Holds (G.state gpu.now) self.now (is_here here) }
         requires aligned { at % bytes_of width ≡ 0 }
         requires below { at < end_of place }

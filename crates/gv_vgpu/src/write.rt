@@ -18,7 +18,7 @@ use gv_types::{EngineId, Width, with_half};
 
 impl Vgpu {
     /// Writes through the aperture.
-    pub fn write_aperture<G: Gpu>(
+    pub(crate) fn write_aperture<G: Gpu>(
         &self,
         gpu: &mut G,
         here: [bool; 4],
@@ -54,7 +54,7 @@ impl Vgpu {
     }
 
     /// Writes the guest's entry, or half of it, at an offset of the register range from 0x800000 on.
-    pub fn write_table<G: Gpu>(
+    pub(crate) fn write_table<G: Gpu>(
         &mut self,
         gpu: &mut G,
         here: [bool; 4],
@@ -76,7 +76,7 @@ impl Vgpu {
     }
 
     /// Writes a dword of an engine's general registers: to the device's, where the guest owns the engine.
-    pub fn write_general<G: Gpu>(
+    pub(crate) fn write_general<G: Gpu>(
         &mut self,
         gpu: &mut G,
         here: [bool; 4],

@@ -168,5 +168,5 @@ returns-clause-pokes g c =
     let one = c.args.event.now in
     let here : IsAt m.guests.items k old = (receiver-there d m c.requires.tied one k c.requires.event c.receiver-guest.ensures, sym c.index_mut-device.ensures.value) in
     ok-both c.answer.result _ _ _ c.answer.ensures.replies c.answer.ensures.pokes
-    (λ reply replies pokes. pokes-then d e m k old new m.stopped here c.requires.tied.ties replies.keeps.number one reply.failsafe c.receiver-guest.ensures
+    (λ reply replies pokes. pokes-then d e m k old new m.stopped here c.requires.tied.ties replies.keeps.changes.number one reply.failsafe c.receiver-guest.ensures
     (subst (λ (own : ℕ → Bool). AccessPokes d e (private_of d old own) (private_of e new own) one reply.failsafe) c.owned_by-here.ensures pokes))

@@ -2,7 +2,6 @@ use Rattle.std.proofs.Common.{Err, is_some, refl}
 use Rattle.gv_types.specs.declared.reply.Reason.TheVariants.{Entry}
 use Rattle.gv_types.specs.declared.reply.Stop.{Stop}
 use Rattle.gv_types.specs.declared.reply.Stop.TheVariants.{DeviceFault}
-use Rattle.gv_gtt.specs.Gtt.{memory_of}
 use Rattle.gv_gtt.proofs.Others.{changes_stay_inside}
 use Rattle.gv_private.specs.Device.{fails}
 use Rattle.gv_private.specs.Roots.{left_or_failed, root_created}
@@ -10,7 +9,8 @@ use Rattle.gv_vgpu.specs.Changes.{Makes, Stops}
 use Rattle.gv_vgpu.specs.Vgpu.{private_of}
 use Rattle.gv_vgpu.specs.Owners.{is_here}
 use Rattle.gv_vgpu.specs.declared.vgpu.Vgpu.{Vgpu}
-use Rattle.gv_vgpu.proofs.Failing.{fail-stops-then, may-fail-after}
+use Rattle.gv_vgpu.proofs.Failing.{may-fail-after}
+use Rattle.gv_vgpu.proofs.Own.{stops-then}
 use Rattle.gv_vgpu.proofs.Roots.{refused-here, root-created, root-refused}
 use Rattle.gv_vgpu.proofs.Stopping.{err-of, if-ok, ok-of, on-err, stops-without}
 use Rattle.gv_vgpu.proofs.vgpu.Vgpu.create_root.Goals as goal
@@ -60,7 +60,7 @@ returns-in-Err-BadEntry-clause-stops g c =
     let here = is_here c.args.here in
     err-of c.fail.result c.or_stop.result (λ stop. Stops here d f old stop) c.or_stop.ensures.fault
     (on-err c.fail.result (Stops here e f new DeviceFault) (Stops here d f old DeviceFault)
-    (λ stops. fail-stops-then here d e f old new (memory_of e new.gtt) DeviceFault (may-fail-after d e old new here c.requires c.create_root.ensures.changes refl refl refl c.create_root.ensures.stands) stops)
+    (λ stops. stops-then here d e f old new DeviceFault (may-fail-after d e old new here c.requires c.create_root.ensures.changes refl refl refl c.create_root.ensures.stands).changes stops)
     c.fail.ensures.faults)
 
 pub returns-in-Err-BadEntry-clause-listed : goal.returns-in-Err-BadEntry-clause-listed

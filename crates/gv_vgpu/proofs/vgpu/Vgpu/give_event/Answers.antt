@@ -26,4 +26,4 @@ returns-clause-given g c =
 
 pub returns-clause-part : goal.returns-clause-part
 returns-clause-part g c =
-    subst (λ guest. ChangesOnly (frames_part guest) 3 (g.G.Gpu.state c.args.gpu.now) (g.G.Gpu.state c.copy.new.gpu)) (c.push-index.ensures.keeps (g.G.Gpu.state c.args.gpu.now) (is_here c.args.here) c.requires.holds).number c.copy.ensures.part
+    subst (λ guest. ChangesOnly (frames_part guest) 3 (g.G.Gpu.state c.args.gpu.now) (g.G.Gpu.state c.copy.new.gpu)) (c.push-index.ensures.keeps (g.G.Gpu.state c.args.gpu.now) (is_here c.args.here) c.requires.holds).changes.number c.copy.ensures.part

@@ -1,9 +1,8 @@
 use Rattle.gv_types.specs.declared.reply.Stop.TheVariants.{DeviceFault}
-use Rattle.gv_gtt.specs.Gtt.{memory_of}
 use Rattle.gv_private.specs.Load.{loaded}
 use Rattle.gv_vgpu.specs.Vgpu.{private_of}
 use Rattle.gv_vgpu.specs.Owners.{is_here}
-use Rattle.gv_vgpu.proofs.Failing.{fail-stops-then}
+use Rattle.gv_vgpu.proofs.Own.{stops-then}
 use Rattle.gv_vgpu.proofs.NextLoaded.{refused-fails, turns-failed, turns-loaded}
 use Rattle.gv_vgpu.proofs.vgpu.Vgpu.load.Goals as goal
 
@@ -29,4 +28,4 @@ returns-in-Err-clause-stops g c =
     let here = is_here c.args.here in
     let refused = refused-fails here d e c.args.self.now c.bring_in.new.self (loaded (private_of d c.args.self.now here) c.args.engine.0 c.in-Some.descriptor) c.in-Err-Fails.field-0 c.in-Err-Fails.reason c.in-Err-Fails.field-0-is
     c.in-Err-Fails.ensures.refuses in
-    fail-stops-then here d e (g.G.Gpu.state c.fail.new.gpu) c.args.self.now c.bring_in.new.self (memory_of d c.args.self.now.gtt) DeviceFault refused.1 c.in-Err.ensures.faults
+    stops-then here d e (g.G.Gpu.state c.fail.new.gpu) c.args.self.now c.bring_in.new.self DeviceFault refused.1.changes c.in-Err.ensures.faults

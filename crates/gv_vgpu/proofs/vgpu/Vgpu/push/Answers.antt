@@ -15,7 +15,7 @@ returns-clause-keeps c = λ d here holds.
     let old = c.args.self.now in
     let new : Vgpu = record { gtt = old.gtt; mmio = c.push.new.self; failsafe = old.failsafe; engines = old.engines; four = c.self-1.given.0 } in
     moved-keeps d old new here holds refl refl refl c.push.ensures.same
-    (λ k runs. subst (λ slots. 0 < length slots.running) (sym (λ i. ((c.push.ensures.device (private_of d old here) i).engines k).slots)) (ring-runs (private_of d old here) c.args.engine.0 k c.args.status runs))
+    (λ k x at runs. subst (λ slots. 0 < length slots.running) (sym (λ i. ((c.push.ensures.device (private_of d old here) i).engines k).slots)) (ring-runs (private_of d old here) c.args.engine.0 k c.args.status runs))
 
 pub returns-clause-index : goal.returns-clause-index
 returns-clause-index c = λ d here holds.

@@ -11,5 +11,5 @@ returns c = λ d here holds.
     record {
       written = c.raise.ensures.raised (private_of d old here) ∙ (λ i. record { device = sym (registers-moved d old new here holds refl refl refl) i; irq = c.raise.result; reason = None });
       keeps = moved-keeps d old new here holds refl refl refl c.raise.ensures.same
-          (λ k runs. subst (λ slots. 0 < length slots.running) (λ i. ((c.raise.ensures.raised (private_of d old here) i).device.engines k).slots) runs);
+          (λ k x at runs. subst (λ slots. 0 < length slots.running) (λ i. ((c.raise.ensures.raised (private_of d old here) i).device.engines k).slots) runs);
     }

@@ -3,7 +3,6 @@ use Rattle.std.proofs.lemmas.Bool.{false≢true}
 use Rattle.gv_types.specs.declared.reply.Reason.TheVariants.{Entry}
 use Rattle.gv_types.specs.declared.reply.Stop.{Stop}
 use Rattle.gv_types.specs.declared.reply.Stop.TheVariants.{DeviceFault}
-use Rattle.gv_gtt.specs.Gtt.{memory_of}
 use Rattle.gv_gtt.proofs.Others.{changes_stay_inside}
 use Rattle.gv_private.specs.Access.{memory_written}
 use Rattle.gv_private.specs.Device.{fails}
@@ -11,7 +10,8 @@ use Rattle.gv_vgpu.specs.Changes.{Makes, Stops}
 use Rattle.gv_vgpu.specs.Vgpu.{private_of}
 use Rattle.gv_vgpu.specs.Owners.{is_here}
 use Rattle.gv_vgpu.specs.declared.vgpu.Vgpu.{Vgpu}
-use Rattle.gv_vgpu.proofs.Failing.{fail-stops-then, may-fail-after}
+use Rattle.gv_vgpu.proofs.Failing.{may-fail-after}
+use Rattle.gv_vgpu.proofs.Own.{stops-then}
 use Rattle.gv_vgpu.proofs.Plain.{access-frames, ok-anyway}
 use Rattle.gv_vgpu.proofs.Words.{bad-written, good-written}
 use Rattle.gv_vgpu.proofs.Stopping.{err-of, if-ok, ok-of, on-err, stops-without}
@@ -62,7 +62,7 @@ returns-in-Err-BadEntry-clause-stops g c =
     let here = is_here c.args.here in
     err-of c.fail.result c.or_stop.result (λ stop. Stops here d f old stop) c.or_stop.ensures.fault
     (on-err c.fail.result (Stops here e f new DeviceFault) (Stops here d f old DeviceFault)
-    (λ stops. fail-stops-then here d e f old new (memory_of e new.gtt) DeviceFault (may-fail-after d e old new here c.requires.holds c.write.ensures.changes refl refl refl c.write.ensures.stands) stops)
+    (λ stops. stops-then here d e f old new DeviceFault (may-fail-after d e old new here c.requires.holds c.write.ensures.changes refl refl refl c.write.ensures.stands).changes stops)
     c.fail.ensures.faults)
 
 pub returns-in-Ok-clause-part : goal.returns-in-Ok-clause-part

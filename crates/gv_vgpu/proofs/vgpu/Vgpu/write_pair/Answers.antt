@@ -4,7 +4,7 @@ use Rattle.std.proofs.lemmas.Result.{err_from_is_err_and}
 use Rattle.gv_private.specs.Registers.{dword_written}
 use Rattle.gv_vgpu.specs.Vgpu.{private_of}
 use Rattle.gv_vgpu.specs.Owners.{is_here}
-use Rattle.gv_vgpu.proofs.Failing.{stops-then}
+use Rattle.gv_vgpu.proofs.Own.{stops-then}
 use Rattle.gv_vgpu.proofs.Plain.{access-then}
 use Rattle.gv_vgpu.proofs.Pairs.{both, faults-first, faults-second, first-alone}
 use Rattle.gv_vgpu.proofs.vgpu.Vgpu.write_pair.Goals as goal
@@ -26,7 +26,7 @@ pub returns-in_err-second-clause-stops : goal.returns-in_err-second-clause-stops
 returns-in_err-second-clause-stops g c =
     let p = err_from_is_err_and c.from_residual-in_err-second.result c.from_residual-in_err-second.ensures.1 in rw (p.1, p.2)
     (stops-then (is_here c.args.here) (g.G.Gpu.state c.args.gpu.now) (g.G.Gpu.state c.write_dword.new.gpu) (g.G.Gpu.state c.write_dword-2.new.gpu) c.args.self.now c.write_dword.new.self c.in_err-second.field-0.0
-    c.in_ok-first.ensures.written.keeps c.in_err-second.ensures.stops)
+    c.in_ok-first.ensures.written.keeps.changes c.in_err-second.ensures.stops)
 
 pub returns-in_err-second-clause-faults : goal.returns-in_err-second-clause-faults
 returns-in_err-second-clause-faults g c =
@@ -48,5 +48,5 @@ returns-then-self-clause-part g c = λ plain. changes-more 6 (omega arith) (c.in
 pub returns-clause-part : goal.returns-clause-part
 returns-clause-part g c = λ plain.
     let keeps = c.in_ok-first.ensures.written.keeps in
-    access-then 3 3 (g.G.Gpu.state c.args.gpu.now) (g.G.Gpu.state c.write_dword.new.gpu) (g.G.Gpu.state c.write_dword-2.new.gpu) c.args.self.now c.write_dword.new.self keeps.number keeps.ranges
+    access-then 3 3 (g.G.Gpu.state c.args.gpu.now) (g.G.Gpu.state c.write_dword.new.gpu) (g.G.Gpu.state c.write_dword-2.new.gpu) c.args.self.now c.write_dword.new.self keeps.changes.number keeps.changes.ranges
     (c.in_ok-first.ensures.part plain.0) (c.in_ok-second.ensures.part plain.1)
