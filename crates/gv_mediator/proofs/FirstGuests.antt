@@ -89,6 +89,7 @@ starts d guests begin empty =
       few = let none : d.live ≡ 0 = ap (λ (x : Device). x.live) empty in let few = begin.few in omega arith;
       machine = refl;
       ran = record { journal = sym (append-nil d.journal); strays = refl };
+      quiet = refl;
     }
 
 same-maps : (f h : Vgpu → Ranges) (xs : List Vgpu) → ((k : ℕ) (v : Vgpu) → IsAt xs k v → f v ≡ h v) → map f xs ≡ map h xs
@@ -110,9 +111,9 @@ module _ (start d : Device) (devices : List Vgpu) (given : Given) (guest : Guest
 
   pub then-joining :
       (e : Device) (new : List Vgpu) (given_then : Given) → Joined e new given_then → given_then ≡ given_after given guest.want
-      → devices_in e first_owner new ≡ devices_in d first_owner devices ++ new_device (length devices) guest.frames (next_ranges given guest.want) ∷ [] → length new ≡ length devices + 1 → e.live ≡ d.live + guest.frames → Ran d e []
+      → devices_in e first_owner new ≡ devices_in d first_owner devices ++ new_device (length devices) guest.frames (next_ranges given guest.want) ∷ [] → length new ≡ length devices + 1 → e.live ≡ d.live + guest.frames → Ran d e [] → e.faults ≡ d.faults
       → IsJoining start e new given_then more all
-  then-joining e new given_then joined is devices_are count live ran = record {
+  then-joining e new given_then joined is devices_are count live ran quiet = record {
     joined = joined;
     may = subst (λ g. MayJoin g more) (sym is) joining.may.2;
     count = let before = joining.count in omega arith;
@@ -123,6 +124,7 @@ module _ (start d : Device) (devices : List Vgpu) (given : Given) (guest : Guest
       journal = ran.journal ∙ append-nil d.journal ∙ joining.ran.journal;
       strays = ran.strays ∙ joining.ran.strays;
     };
+    quiet = quiet ∙ joining.quiet;
   }
     where
       now : List PrivateDevice

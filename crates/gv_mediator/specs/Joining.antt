@@ -51,3 +51,4 @@ pub record IsJoining (start d : Device) (devices : List Vgpu) (given : Given) (m
   pub few : d.live + sum_by (λ (guest : Guest). guest.frames) more ≤ 16384
   pub machine : all_joined (record { devices = devices_in d first_owner devices; owners = λ engine. 0 }) more ≡ first_machine all
   pub ran : Ran start d []
+  pub quiet : d.faults ≡ start.faults

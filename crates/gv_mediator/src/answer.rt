@@ -92,6 +92,7 @@ impl Mediator {
         ensures machine { OnOk result (machine_of (G.state gpu.new) self.new ≡ (event_done (machine_of (G.state gpu.old) self.old) event.now).left) }
         ensures tied { OnOk result (Tied (G.state gpu.new) self.new) }
         ensures ran { OnOk result (Ran (G.state gpu.old) (G.state gpu.new) (entries_ran (event_done (machine_of (G.state gpu.old) self.old) event.now).came)) }
+        ensures quiet { OnOk result ((G.state gpu.new).faults ≡ (G.state gpu.old).faults) }
         ensures stopped { OnErr result (Ran (G.state gpu.old) (G.state gpu.new) []) }
         ensures cause { IsErrOf result Stop.DeviceFault → counted (G.state gpu.old).faults ≤ (G.state gpu.new).faults }
         ensures memory { IsErrOf result Stop.OutOfMemory → (G.state gpu.new).faults ≡ (G.state gpu.old).faults }
@@ -116,6 +117,7 @@ impl Mediator {
         ensures machine { OnOk result (machine_of (G.state gpu.new) self.new ≡ (event_done (machine_of (G.state gpu.old) self.old) event.now).left) }
         ensures tied { OnOk result (Tied (G.state gpu.new) self.new) }
         ensures ran { OnOk result (Ran (G.state gpu.old) (G.state gpu.new) (entries_ran (event_done (machine_of (G.state gpu.old) self.old) event.now).came)) }
+        ensures quiet { OnOk result ((G.state gpu.new).faults ≡ (G.state gpu.old).faults) }
         ensures stopped { OnErr result (Ran (G.state gpu.old) (G.state gpu.new) []) }
         ensures cause { IsErrOf result Stop.DeviceFault → counted (G.state gpu.old).faults ≤ (G.state gpu.new).faults }
         ensures memory { IsErrOf result Stop.OutOfMemory → (G.state gpu.new).faults ≡ (G.state gpu.old).faults }
@@ -139,7 +141,7 @@ impl Mediator {
     /// One event: the reply is that of the machine, which is as after the event then. After a `Stop` no further event is
     /// taken. `DeviceFault` comes only at a turn that isn't idle, at a reset, at an access at which the guest's device may fault, and at a
     /// switch by which the owner changes; `OutOfMemory` only at a turn that isn't idle, at a move that isn't kept, and at a write of a live
-    /// table or of notify, and where no fault was counted.
+    /// table or of notify, and where no fault was counted. A reply passes over no fault of the device.
     pub fn event<G: Gpu>(
         &mut self,
         alloc: Global,
@@ -153,6 +155,7 @@ impl Mediator {
         ensures machine { OnOk result (machine_of (G.state gpu.new) self.new ≡ (event_done (machine_of (G.state gpu.old) self.old) event.now).left) }
         ensures tied { OnOk result (Tied (G.state gpu.new) self.new) }
         ensures ran { OnOk result (Ran (G.state gpu.old) (G.state gpu.new) (entries_ran (event_done (machine_of (G.state gpu.old) self.old) event.now).came)) }
+        ensures quiet { OnOk result ((G.state gpu.new).faults ≡ (G.state gpu.old).faults) }
         ensures stopped { OnErr result (Ran (G.state gpu.old) (G.state gpu.new) []) }
         ensures stops { self.new.stopped ≡ is_err result }
         ensures cause { IsErrOf result Stop.DeviceFault → counted (G.state gpu.old).faults ≤ (G.state gpu.new).faults }

@@ -37,6 +37,7 @@ fn join<G: Gpu>(
     ensures count { OnOk result (length devices.new.items ≡ length devices.old.items + 1) }
     ensures live { OnOk result ((G.state gpu.new).live ≡ (G.state gpu.old).live + guest.now.frames) }
     ensures ran { Ran (G.state gpu.old) (G.state gpu.new) [] }
+    ensures quiet { (G.state gpu.new).faults ≡ (G.state gpu.old).faults }
 {
     devices.reserve(1)?;
     let number = GuestId(devices.len() as u8);
@@ -56,6 +57,7 @@ fn join_all<G: Gpu>(alloc: Global, gpu: &mut G, guests: &[Guest]) -> Result<Vec<
     ensures count { IfOk result (λ devices. length devices.items ≡ length guests.now) }
     ensures few { OnOk result ((G.state gpu.new).live ≤ 16384) }
     ensures ran { Ran (G.state gpu.old) (G.state gpu.new) [] }
+    ensures quiet { (G.state gpu.new).faults ≡ (G.state gpu.old).faults }
 {
     let mut devices = Vec::new(alloc);
     let mut given = Given::NOTHING;
@@ -78,6 +80,7 @@ impl Mediator {
         ensures tied { IfOk result (λ m. Tied (G.state gpu.new) m) }
         ensures running { IfOk result (λ m. m.stopped ≡ false) }
         ensures ran { Ran (G.state gpu.old) (G.state gpu.new) [] }
+        ensures quiet { (G.state gpu.new).faults ≡ (G.state gpu.old).faults }
     {
         let devices = join_all(alloc, gpu, guests)?;
         Ok(Mediator {

@@ -62,6 +62,7 @@ impl Mediator {
         ensures machine { OnOk result (machine_of (G.state gpu.new) self.new ≡ (switch_course (machine_of (G.state gpu.old) self.old) engine).left) }
         ensures tied { OnOk result (Tied (G.state gpu.new) self.new) }
         ensures ran { Ran (G.state gpu.old) (G.state gpu.new) [] }
+        ensures quiet { OnOk result ((G.state gpu.new).faults ≡ (G.state gpu.old).faults) }
         ensures cause { OnErr result (counted (G.state gpu.old).faults ≤ (G.state gpu.new).faults) }
         ensures stays { owner_after (machine_of (G.state gpu.old) self.old) engine.0 ≡ owner_of self.old.rota engine.0 → G.state gpu.new ≡ G.state gpu.old }
         ensures copies { OnOk result (AllCopiesStay (G.state gpu.old) (G.state gpu.new) self.old self.new) }

@@ -243,26 +243,32 @@ may-begin d known guests gathered some eight =
 pub known-begun : (m : Machine) (known : Known) → HasKnown m known → HasKnown m (record known { begun = true })
 known-begun m known has = record { whole = has.whole; count = has.count; sizes = has.sizes; room = has.room; eight = has.eight }
 
-pub agrees-made : (e : Device) (known : Known) (m : Mediator) (first : Machine) → HasKnown first known → machine_of e m ≡ first → Tied e m → m.stopped ≡ false → Agrees e (record known { begun = true }) (Running m)
-agrees-made e known m first has is tied running = record {
-  there = record { tied = tied; running = running; begun = refl };
+pub agrees-made : (e : Device) (known : Known) (m : Mediator) (first : Machine) → HasKnown first known → machine_of e m ≡ first → Tied e m → m.stopped ≡ false → e.faults ≡ 0
+    → Agrees e (record known { begun = true }) (Running m)
+agrees-made e known m first has is tied running quiet = record {
+  there = record { tied = tied; running = running; quiet = quiet; begun = refl };
   guests = subst (λ (k : Machine). HasKnown k (record known { begun = true })) (sym is) (known-begun first known has);
 }
 
 pub agrees-still : (d : Device) (known : Known) (stage : Stage) → is_running stage ≡ true → Agrees d known stage → Agrees d (record known { begun = true }) stage
 agrees-still d known (Gathering guests) is agrees = absurd (cc)
-agrees-still d known (Running m) is agrees = agrees-made d known m (machine_of d m) agrees.guests refl agrees.there.tied agrees.there.running
+agrees-still d known (Running m) is agrees = agrees-made d known m (machine_of d m) agrees.guests refl agrees.there.tied agrees.there.running agrees.there.quiet
 
 pub made-of : (d : Device) (known : Known) (stage : Stage) → Agrees d known stage → is_running stage ≡ true → IsMade d stage
 made-of d known (Gathering guests) agrees is = absurd (cc)
 made-of d known (Running m) agrees is =
     let count = agrees.guests.count in
     let eight = agrees.guests.eight in
-    record { tied = agrees.there.tied; running = agrees.there.running; whole = agrees.guests.whole; eight = omega arith }
+    record { tied = agrees.there.tied; running = agrees.there.running; quiet = agrees.there.quiet; whole = agrees.guests.whole; eight = omega arith }
 
 pub has-memories : (d : Device) (stage : Stage) → DevicesHaveMemories → IsMade d stage → HasMemories d (machine_in d stage)
 has-memories d (Gathering guests) law made = absurd made
 has-memories d (Running m) law made = law d m made.tied
+
+-- no fault was counted, whether the devices were made or not
+pub quiet-of : (d : Device) (known : Known) (stage : Stage) → Agrees d known stage → d.faults ≡ 0
+quiet-of d known (Gathering guests) agrees = ap (λ (x : Device). x.faults) agrees.there.empty
+quiet-of d known (Running m) agrees = agrees.there.quiet
 
 -- ---- events leave the guests that are known
 
@@ -282,7 +288,7 @@ known-played m known inputs has whole =
 
 pub agrees-played : (e : Device) (known : Known) (m : Machine) (after : Mediator) (inputs : List Input) → HasKnown m known → Stands e after → machine_of e after ≡ (play input_course m inputs).left → Agrees e (record known { begun = true }) (Running after)
 agrees-played e known m after inputs has stands is =
-    agrees-made e known after (play input_course m inputs).left (known-played m known inputs has (subst IsWhole is stands.whole)) is stands.tied stands.running
+    agrees-made e known after (play input_course m inputs).left (known-played m known inputs has (subst IsWhole is stands.whole)) is stands.tied stands.running stands.quiet
 
 -- ---- by what a match says of a stage
 

@@ -40,7 +40,7 @@ pub of-whole : (m : Machine) → Whole m → IsWhole m
 of-whole m whole = record { numbers = whole.numbers; owners = whole.owners }
 
 -- the devices stand after some inputs
-module _ (d e : Device) (before after : Mediator) (inputs : List Input) (stands : Stands d before) (below : AreBelow (length (machine_of d before).devices) inputs) (tied : Tied e after) (running : after.stopped ≡ false) where
+module _ (d e : Device) (before after : Mediator) (inputs : List Input) (stands : Stands d before) (below : AreBelow (length (machine_of d before).devices) inputs) (tied : Tied e after) (running : after.stopped ≡ false) (quiet : e.faults ≡ d.faults) where
   pub stands-played : machine_of e after ≡ (play input_course (machine_of d before) inputs).left → Stands e after
   stands-played moved =
       let m = machine_of d before in
@@ -48,6 +48,7 @@ module _ (d e : Device) (before after : Mediator) (inputs : List Input) (stands 
       record {
         tied = tied;
         running = running;
+        quiet = quiet ∙ stands.quiet;
         whole = subst IsWhole (sym moved) whole;
         eight = subst (λ n. n ≤ 8) (sym (ap (λ (k : Machine). length k.devices) moved ∙ length-played m inputs)) stands.eight;
       }

@@ -23,10 +23,11 @@ pub record IsWhole (m : Machine) : Type 0 where
   pub numbers : (g : ℕ) → g < length m.devices → (device_at m.devices g).number ≡ g
   pub owners : (engine : ℕ) → m.owners engine ≤ length m.devices - 1
 
--- The guests' devices stand in the shared device, and take events.
+-- The guests' devices stand in the shared device, and take events. The device counted no fault.
 pub record Stands (d : Device) (m : Mediator) : Type 0 where
   pub tied : Tied d m
   pub running : m.stopped ≡ false
+  pub quiet : d.faults ≡ 0
   pub whole : IsWhole (machine_of d m)
   pub eight : length (machine_of d m).devices ≤ 8
 
@@ -76,10 +77,11 @@ pub record AreGathered (d : Device) (known : Known) (guests : List Guest) : Type
   pub low_fits : known.given.low ≤ 65536
   pub high_fits : known.given.high ≤ 966656
 
--- An event came, and the devices stand.
+-- An event came, and the devices stand. The shared device counted no fault.
 pub record AreMade (d : Device) (known : Known) (m : Mediator) : Type 0 where
   pub tied : Tied d m
   pub running : m.stopped ≡ false
+  pub quiet : d.faults ≡ 0
   pub begun : known.begun ≡ true
 
 abbrev pub IsAt : Device → Known → Stage → Type 0

@@ -82,6 +82,7 @@ pub fn run_number<K: Sink, G: Gpu>(
     ensures reads { result ≢ Err Stopped.Read }
     ensures write { result ≡ Err Stopped.Write → Rose (K.faults sink.old) (K.faults sink.new) }
     ensures device { result ≡ Err Stopped.Device → 0 < (G.state gpu.new).faults }
+    ensures quiet { OnOk result ((G.state gpu.new).faults ≡ (G.state gpu.old).faults) }
 {
     let mut run = Run::new(alloc)?;
     let mut outlet = Outlet::Totals(Totals::NONE);

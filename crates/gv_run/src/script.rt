@@ -114,6 +114,7 @@ pub fn run_script<S: Source, K: Sink, G: Gpu>(
     ensures read { result ≡ Err Stopped.Read → Rose (S.faults source.old) (S.faults source.new) }
     ensures write { result ≡ Err Stopped.Write → Rose (K.faults sink.old) (K.faults sink.new) }
     ensures device { result ≡ Err Stopped.Device → 0 < (G.state gpu.new).faults }
+    ensures quiet { OnOk result ((G.state gpu.new).faults ≡ (G.state gpu.old).faults) }
 {
     let mut run = Run::new(alloc)?;
     let mut reader = LineReader::new(alloc, LIMIT)?;

@@ -64,6 +64,9 @@ returns-in_err-join-clause-ran g c =
       strays = ran.strays ∙ before.strays;
     }
 
+pub returns-in_err-join-clause-quiet : goal.returns-in_err-join-clause-quiet
+returns-in_err-join-clause-quiet g c = c.join.ensures.quiet ∙ c.loop-guest.invariant.quiet
+
 pub loop-guest-preserved : goal.loop-guest-preserved
 loop-guest-preserved g c =
     let d = g.G.Gpu.state c.loop-guest.gpu in
@@ -73,7 +76,7 @@ loop-guest-preserved g c =
     let joining : IsJoining (g.G.Gpu.state c.args.gpu.now) d c.loop-guest.devices.items c.loop-guest.given (guest ∷ drop (i + 1) all) all =
     subst (λ more. IsJoining (g.G.Gpu.state c.args.gpu.now) d c.loop-guest.devices.items c.loop-guest.given more all) (drop-cons all i no_guest c.loop-guest-test.true ∙ ap (λ k. guest ∷ drop k all) (suc-is i)) c.loop-guest.invariant in
     let made = c.in_ok-join.ensures in
-    then-joining (g.G.Gpu.state c.args.gpu.now) d c.loop-guest.devices.items c.loop-guest.given guest (drop (i + 1) all) all joining (g.G.Gpu.state c.join.new.gpu) c.join.new.devices.items c.join.new.given made.joined made.given made.devices made.count made.live made.ran
+    then-joining (g.G.Gpu.state c.args.gpu.now) d c.loop-guest.devices.items c.loop-guest.given guest (drop (i + 1) all) all joining (g.G.Gpu.state c.join.new.gpu) c.join.new.devices.items c.join.new.given made.joined made.given made.devices made.count made.live made.ran made.quiet
 
 pub returns-clause-joined : goal.returns-clause-joined
 returns-clause-joined g c = (c.loop-guest.given, c.loop-guest.invariant.joined)
@@ -97,6 +100,9 @@ returns-clause-few g c =
 
 pub returns-clause-ran : goal.returns-clause-ran
 returns-clause-ran g c = c.loop-guest.invariant.ran
+
+pub returns-clause-quiet : goal.returns-clause-quiet
+returns-clause-quiet g c = c.loop-guest.invariant.quiet
 
 pub loop-guest-init : goal.loop-guest-init
 loop-guest-init g c =

@@ -37,7 +37,7 @@ returns-clause-stands g c =
     let came = comes m one stands.whole some c.requires.event c.requires.alone in
     stands-played d _ c.args.mediator.now c.event.new.self (event one ∷ []) stands
     (event-below m one c.requires.event some, tt)
-    c.in_ok-reply.ensures.tied c.in_ok-reply.ensures.stops
+    c.in_ok-reply.ensures.tied c.in_ok-reply.ensures.stops c.in_ok-reply.ensures.quiet
     (c.in_ok-reply.ensures.machine ∙ came.left)
 
 pub returns-clause-done : goal.returns-clause-done

@@ -1,5 +1,6 @@
-use Rattle.std.proofs.Common.{refl}
-use Rattle.gv_run.proofs.Guests.{agrees-first}
+use Rattle.std.proofs.Common.{ap, refl, sym, ◌∙◌}
+use Rattle.gv_gpu.specs.Device.{Device}
+use Rattle.gv_run.proofs.Guests.{agrees-first, quiet-of}
 use Rattle.gv_run.proofs.Summed.{made-none, made-lines, made-told, made-cut, made-whole}
 use Rattle.gv_run.proofs.made.run_number.Goals as goal
 
@@ -34,3 +35,7 @@ returns-clause-part g c =
     made-cut c.args.number (g.K.Sink.held c.args.sink.now) c.in_ok-run_made.ensures.done c.finish.new.outlet (g.K.Sink.held c.finish.new.sink) c.in_ok-finish.ensures.told
     c.finish.new.self.report c.tell_totals.new.report c.totals.result c.in_ok-finish.ensures.empty c.totals.ensures c.in_ok-tell_totals.ensures
     c.flush.new.self (g.K.Sink.held c.flush.new.sink) c.flush.ensures.passes
+
+pub returns-clause-quiet : goal.returns-clause-quiet
+returns-clause-quiet g c =
+    quiet-of (g.G.Gpu.state c.run_made.new.gpu) c.run_made.new.run.known c.run_made.new.run.stage c.in_ok-run_made.ensures.agrees ∙ sym (ap (λ (x : Device). x.faults) c.requires)

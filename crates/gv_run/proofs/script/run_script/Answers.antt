@@ -1,8 +1,9 @@
 use Rattle.std.proofs.Common.{ap, sym, ◌∙◌}
+use Rattle.gv_gpu.specs.Device.{Device}
 use Rattle.gv_lines.specs.Reader.{new_reader}
 use Rattle.gv_text.specs.Script.{script_limit-is}
 use Rattle.gv_run.proofs.Finishing.{begun-none, finish-begun, finishes}
-use Rattle.gv_run.proofs.Guests.{agrees-first}
+use Rattle.gv_run.proofs.Guests.{agrees-first, quiet-of}
 use Rattle.gv_run.proofs.Streaming.{if_some}
 use Rattle.gv_run.proofs.script.run_script.Goals as goal
 
@@ -29,3 +30,7 @@ returns-clause-finishes g c =
 pub returns-clause-begun : goal.returns-clause-begun
 returns-clause-begun g c =
     if_some (g.S.Source.left c.args.source.now) (λ bytes is lines. finish-begun bytes lines c.finish.new.outlet (g.K.Sink.held c.finish.new.sink) c.finish.ensures.part) c.in_ok-ending.ensures.done
+
+pub returns-clause-quiet : goal.returns-clause-quiet
+returns-clause-quiet g c =
+    quiet-of (g.G.Gpu.state c.run_lines.new.gpu) c.run_lines.new.run.known c.run_lines.new.run.stage c.in_ok-ending.ensures.agrees ∙ sym (ap (λ (x : Device). x.faults) c.requires)

@@ -1,4 +1,5 @@
-use Rattle.std.proofs.Common.{ℕ, Bool, length, sym, subst}
+use Rattle.std.proofs.Common.{ℕ, Bool, length, ap, sym, subst}
+use Rattle.gv_gpu.specs.Device.{Device}
 use Rattle.gv_gtt.specs.Gtt.{number_of}
 use Rattle.gv_vgpu.specs.Standing.{Holds}
 use Rattle.gv_vgpu.specs.Access.{AccessPokes, Replies}
@@ -108,6 +109,9 @@ returns-clause-copies g c =
     ok-then c.answer.result _ _ c.answer.ensures.replies
     (λ reply replies. copies-then d m c.requires.tied one k c.requires.event c.receiver-guest.ensures old here e new reply
     (subst (λ (own : ℕ → Bool). Replies own d e old new (answer (private_of d old own) one) reply) c.owned_by-here.ensures replies))
+
+pub returns-clause-quiet : goal.returns-clause-quiet
+returns-clause-quiet g c = ok-then c.answer.result _ _ c.answer.ensures.replies (λ reply replies. ap (λ (x : Device). x.faults) replies.keeps.changes.outside)
 
 pub returns-clause-ran : goal.returns-clause-ran
 returns-clause-ran g c =

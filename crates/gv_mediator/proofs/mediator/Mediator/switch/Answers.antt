@@ -1,4 +1,5 @@
 use Rattle.std.proofs.Common.{ℕ, Bool, false, set, take, ap, sym, ◌∙◌}
+use Rattle.gv_gpu.specs.Device.{Device}
 use Rattle.gv_vgpu.specs.Exchange.{owning}
 use Rattle.gv_vgpu.specs.Owners.{is_here}
 use Rattle.gv_mediator.specs.Rota.{owners_in}
@@ -183,3 +184,6 @@ returns-clause-copies g c =
     let there = is_here c.without-there.result in
     let there_is = c.without-there.ensures ∙ ap (λ (h : ℕ → Bool). owning h engine.0 false) c.owned_by.ensures in
     copies-switched d m c.requires.tied engine c.requires.engine works works_are owner c.owner-owner.ensures.owner next c.switch-next.ensures.owner rota c.switch-next.ensures.after old here own c.owned_by-here.ensures e new away idle v at there there_is (g.G.Gpu.state c.bring.new.gpu) c.in_ok-bring.ensures.exchanges
+
+pub returns-clause-quiet : goal.returns-clause-quiet
+returns-clause-quiet g c = ap (λ (x : Device). x.faults) c.in_ok-bring.ensures.exchanges.changes.outside ∙ ap (λ (x : Device). x.faults) c.in_ok-put_away.ensures.exchanges.changes.outside

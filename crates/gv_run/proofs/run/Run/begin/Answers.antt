@@ -1,7 +1,7 @@
 use Rattle.std.proofs.Common.{sym, ap, ◌∙◌, subst}
 use Rattle.gv_mediator.specs.First.{MayBegin, first_machine}
 use Rattle.gv_run.specs.Tied.{machine_in, is_running}
-use Rattle.gv_run.proofs.Guests.{gathered-of, known-of, may-begin, agrees-made, agrees-still}
+use Rattle.gv_run.proofs.Guests.{gathered-of, known-of, may-begin, agrees-made, agrees-still, quiet-of}
 use Rattle.gv_run.proofs.run.Run.begin.Goals as goal
 
 pub new-requires-clause-begin : goal.new-requires-clause-begin
@@ -19,7 +19,7 @@ returns-in_ok-mediator-clause-agrees g c =
     let first = first_machine guests.items in
     let made = c.in_ok-mediator.ensures in
     agrees-made _ c.args.self.now.known c.in_ok-mediator.mediator first (known-of c.requires.agrees guests c.in-Gathering.is)
-    (made.machine ∙ ap first_machine c.deref.ensures.value) made.tied made.running
+    (made.machine ∙ ap first_machine c.deref.ensures.value) made.tied made.running (made.quiet ∙ quiet-of _ c.args.self.now.known c.args.self.now.stage c.requires.agrees)
 
 pub returns-in_ok-mediator-clause-machine : goal.returns-in_ok-mediator-clause-machine
 returns-in_ok-mediator-clause-machine g c =
