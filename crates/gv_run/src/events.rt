@@ -39,6 +39,8 @@ fn event<G: Gpu>(
         (G.state gpu.old) report.old (G.state gpu.new) (machine_of (G.state gpu.new) mediator.new) report.new) }
     ensures part { RanPart (G.state gpu.old) (G.state gpu.new) (entries_in (input_course (machine_of (G.state gpu.old) mediator.old) (one_event event.now)).came) }
     ensures cause { result ≡ Err Stopped.Device → 0 < (G.state gpu.new).faults }
+    ensures quiet { OnOk result ((G.state gpu.new).faults ≡ (G.state gpu.old).faults) }
+    ensures memory { result ≡ Err Stopped.OutOfMemory → (G.state gpu.new).faults ≡ (G.state gpu.old).faults }
     ensures reads { result ≢ Err Stopped.Read }
     ensures writes { result ≢ Err Stopped.Write }
 {
@@ -70,6 +72,8 @@ fn writes<G: Gpu>(
     ensures part { RanPart (G.state gpu.old) (G.state gpu.new)
         (entries_in (play input_course (machine_of (G.state gpu.old) mediator.old) (writes_of guest place width at values.now)).came) }
     ensures cause { result ≡ Err Stopped.Device → 0 < (G.state gpu.new).faults }
+    ensures quiet { OnOk result ((G.state gpu.new).faults ≡ (G.state gpu.old).faults) }
+    ensures memory { result ≡ Err Stopped.OutOfMemory → (G.state gpu.new).faults ≡ (G.state gpu.old).faults }
     ensures reads { result ≢ Err Stopped.Read }
     ensures writes { result ≢ Err Stopped.Write }
 {
@@ -117,6 +121,8 @@ fn submit<G: Gpu>(
     ensures part { RanPart (G.state gpu.old) (G.state gpu.new)
         (entries_in (play input_course (machine_of (G.state gpu.old) mediator.old) (port_writes guest engine values.now)).came) }
     ensures cause { result ≡ Err Stopped.Device → 0 < (G.state gpu.new).faults }
+    ensures quiet { OnOk result ((G.state gpu.new).faults ≡ (G.state gpu.old).faults) }
+    ensures memory { result ≡ Err Stopped.OutOfMemory → (G.state gpu.new).faults ≡ (G.state gpu.old).faults }
     ensures reads { result ≢ Err Stopped.Read }
     ensures writes { result ≢ Err Stopped.Write }
 {
@@ -161,6 +167,8 @@ pub(crate) fn run_line<G: Gpu>(
     ensures part { RanPart (G.state gpu.old) (G.state gpu.new)
         (entries_in (play input_course (machine_of (G.state gpu.old) mediator.old) (inputs_in line.now)).came) }
     ensures cause { result ≡ Err Stopped.Device → 0 < (G.state gpu.new).faults }
+    ensures quiet { OnOk result ((G.state gpu.new).faults ≡ (G.state gpu.old).faults) }
+    ensures memory { result ≡ Err Stopped.OutOfMemory → (G.state gpu.new).faults ≡ (G.state gpu.old).faults }
     ensures reads { result ≢ Err Stopped.Read }
     ensures writes { result ≢ Err Stopped.Write }
 {

@@ -46,6 +46,8 @@ fn run_made<K: Sink, G: Gpu>(
     ensures reads { result ≢ Err Stopped.Read }
     ensures write { result ≡ Err Stopped.Write → Rose (K.faults sink.old) (K.faults sink.new) }
     ensures device { result ≡ Err Stopped.Device → 0 < (G.state gpu.new).faults }
+    ensures quiet { OnOk result ((G.state gpu.new).faults ≡ (G.state gpu.old).faults) }
+    ensures memory { result ≡ Err Stopped.OutOfMemory → (G.state gpu.new).faults ≡ (G.state gpu.old).faults }
     ensures later { K.faults sink.old ≤ K.faults sink.new }
 {
     for line in Script::new(number) {
@@ -83,6 +85,7 @@ pub fn run_number<K: Sink, G: Gpu>(
     ensures write { result ≡ Err Stopped.Write → Rose (K.faults sink.old) (K.faults sink.new) }
     ensures device { result ≡ Err Stopped.Device → 0 < (G.state gpu.new).faults }
     ensures quiet { OnOk result ((G.state gpu.new).faults ≡ (G.state gpu.old).faults) }
+    ensures memory { result ≡ Err Stopped.OutOfMemory → (G.state gpu.new).faults ≡ (G.state gpu.old).faults }
 {
     let mut run = Run::new(alloc)?;
     let mut outlet = Outlet::Totals(Totals::NONE);

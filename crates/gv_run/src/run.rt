@@ -76,6 +76,7 @@ impl Run {
         ensures known { self.new.known ≡ self.old.known }
         ensures report { self.new.report ≡ self.old.report }
         ensures ran { Ran (G.state gpu.old) (G.state gpu.new) [] }
+        ensures quiet { (G.state gpu.new).faults ≡ (G.state gpu.old).faults }
     {
         if let Stage::Gathering(guests) = &self.stage {
             let mediator = Mediator::new(alloc, gpu, guests)?;
@@ -96,6 +97,8 @@ impl Run {
             (G.state gpu.old) self.old.report (G.state gpu.new) (machine_in (G.state gpu.new) self.new.stage) self.new.report) }
         ensures part { RanPart (G.state gpu.old) (G.state gpu.new) (entries_in (line_course (machine_in (G.state gpu.old) self.old.stage) line.now).came) }
         ensures cause { result ≡ Err Stopped.Device → 0 < (G.state gpu.new).faults }
+        ensures quiet { OnOk result ((G.state gpu.new).faults ≡ (G.state gpu.old).faults) }
+        ensures memory { result ≡ Err Stopped.OutOfMemory → (G.state gpu.new).faults ≡ (G.state gpu.old).faults }
         ensures reads { result ≢ Err Stopped.Read }
         ensures writes { result ≢ Err Stopped.Write }
     {
@@ -117,6 +120,8 @@ impl Run {
             (G.state gpu.old) self.old.report (G.state gpu.new) (machine_in (G.state gpu.new) self.new.stage) self.new.report) }
         ensures part { RanPart (G.state gpu.old) (G.state gpu.new) (entries_in (line_course (machine_in (G.state gpu.old) self.old.stage) line.now).came) }
         ensures cause { result ≡ Err Stopped.Device → 0 < (G.state gpu.new).faults }
+        ensures quiet { OnOk result ((G.state gpu.new).faults ≡ (G.state gpu.old).faults) }
+        ensures memory { result ≡ Err Stopped.OutOfMemory → (G.state gpu.new).faults ≡ (G.state gpu.old).faults }
         ensures reads { result ≢ Err Stopped.Read }
         ensures writes { result ≢ Err Stopped.Write }
     {
@@ -145,6 +150,8 @@ impl Run {
             (G.state gpu.old) self.old.report (G.state gpu.new) (machine_in (G.state gpu.new) self.new.stage) self.new.report) }
         ensures part { RanPart (G.state gpu.old) (G.state gpu.new) (entries_in (line_course (machine_in (G.state gpu.old) self.old.stage) line.now).came) }
         ensures cause { result ≡ Err Stopped.Device → 0 < (G.state gpu.new).faults }
+        ensures quiet { OnOk result ((G.state gpu.new).faults ≡ (G.state gpu.old).faults) }
+        ensures memory { result ≡ Err Stopped.OutOfMemory → (G.state gpu.new).faults ≡ (G.state gpu.old).faults }
         ensures reads { result ≢ Err Stopped.Read }
         ensures writes { result ≢ Err Stopped.Write }
     {
@@ -162,6 +169,7 @@ impl Run {
         ensures machine { OnOk result (machine_in (G.state gpu.new) self.new.stage ≡ machine_in (G.state gpu.old) self.old.stage) }
         ensures report { self.new.report ≡ self.old.report }
         ensures ran { Ran (G.state gpu.old) (G.state gpu.new) [] }
+        ensures quiet { (G.state gpu.new).faults ≡ (G.state gpu.old).faults }
     {
         self.begin(alloc, gpu)?;
         self.known.begun = true;

@@ -68,6 +68,8 @@ fn run_lines<S: Source, K: Sink, G: Gpu>(
     ensures read { result ≡ Err Stopped.Read → Rose (S.faults source.old) (S.faults source.new) }
     ensures write { result ≡ Err Stopped.Write → Rose (K.faults sink.old) (K.faults sink.new) }
     ensures device { result ≡ Err Stopped.Device → 0 < (G.state gpu.new).faults }
+    ensures quiet { OnOk result ((G.state gpu.new).faults ≡ (G.state gpu.old).faults) }
+    ensures memory { result ≡ Err Stopped.OutOfMemory → (G.state gpu.new).faults ≡ (G.state gpu.old).faults }
     ensures later { K.faults sink.old ≤ K.faults sink.new }
 {
     let mut number = 1u64;
@@ -115,6 +117,7 @@ pub fn run_script<S: Source, K: Sink, G: Gpu>(
     ensures write { result ≡ Err Stopped.Write → Rose (K.faults sink.old) (K.faults sink.new) }
     ensures device { result ≡ Err Stopped.Device → 0 < (G.state gpu.new).faults }
     ensures quiet { OnOk result ((G.state gpu.new).faults ≡ (G.state gpu.old).faults) }
+    ensures memory { result ≡ Err Stopped.OutOfMemory → (G.state gpu.new).faults ≡ (G.state gpu.old).faults }
 {
     let mut run = Run::new(alloc)?;
     let mut reader = LineReader::new(alloc, LIMIT)?;

@@ -87,6 +87,8 @@ pub(crate) fn turns<G: Gpu>(
     ensures part { RanPart (G.state gpu.old) (G.state gpu.new)
         (entries_in (input_course (machine_of (G.state gpu.old) mediator.old) (all_turns engine count)).came) }
     ensures cause { result ≡ Err Stopped.Device → 0 < (G.state gpu.new).faults }
+    ensures quiet { OnOk result ((G.state gpu.new).faults ≡ (G.state gpu.old).faults) }
+    ensures memory { result ≡ Err Stopped.OutOfMemory → (G.state gpu.new).faults ≡ (G.state gpu.old).faults }
     ensures reads { result ≢ Err Stopped.Read }
     ensures writes { result ≢ Err Stopped.Write }
 {

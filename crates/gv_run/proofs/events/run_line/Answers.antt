@@ -17,6 +17,8 @@ returns-in-Some g c =
       done = subst (λ (course : Course Machine Done). OnOk c.event.result (Plays course d c.args.report.now e (machine_of e c.event.new.mediator) c.event.new.report)) same c.event.ensures.done;
       part = subst (λ (course : Course Machine Done). RanPart d e (entries_in course.came)) same c.event.ensures.part;
       cause = c.event.ensures.cause;
+      quiet = c.event.ensures.quiet;
+      memory = c.event.ensures.memory;
       reads = c.event.ensures.reads;
       writes = c.event.ensures.writes;
     }

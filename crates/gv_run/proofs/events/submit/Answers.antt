@@ -1,4 +1,4 @@
-use Rattle.std.proofs.Common.{◌≡◌, ℕ, ◌+◌, ◌^◌, ◌%◌, ◌<◌, List, length, get_or, drop, refl, sym, ap, subst, arith}
+use Rattle.std.proofs.Common.{◌≡◌, ℕ, ◌+◌, ◌^◌, ◌%◌, ◌<◌, List, length, get_or, drop, refl, sym, ap, subst, arith, ◌∙◌}
 use Rattle.std.proofs.lemmas.List.{drop_all}
 use Rattle.gv_types.specs.declared.event.Event.TheVariants.{Write}
 use Rattle.gv_types.specs.declared.event.Place.TheVariants.{Registers}
@@ -17,6 +17,7 @@ loop-value-init g c =
     let start = g.G.Gpu.state c.args.gpu.now in
     record {
       stands = c.requires.stands;
+      quiet = refl;
       going = going-all (machine_of start c.args.mediator.now) (port_writes c.args.guest c.args.engine c.args.values.now) _ c.args.report.now start refl;
     }
 
@@ -49,6 +50,7 @@ loop-value-preserved g c =
     let plays = subst (λ b. Plays (input_course m (write b)) d c.loop-value.report e after c.event.new.report) c.base_of.ensures c.in_ok-event.ensures.done in
     record {
       stands = c.in_ok-event.ensures.stands;
+      quiet = c.in_ok-event.ensures.quiet ∙ c.loop-value.invariant.quiet;
       going = going-on (machine_of start c.args.mediator.now) (port values) c.args.report.now start m (write (base_of c.args.engine)) (port (drop (i + 1) values)) (port (drop i values)) c.loop-value.report d c.loop-value.invariant.going
           (port-first c.args.guest c.args.engine values i (omega arith)) after c.event.new.report e plays;
     }

@@ -1,4 +1,4 @@
-use Rattle.std.proofs.Common.{drop}
+use Rattle.std.proofs.Common.{◌≡◌, drop}
 use Rattle.gv_machine.specs.Machine.{port_writes}
 use Rattle.gv_mediator.specs.Tied.{machine_of}
 use Rattle.gv_run.specs.Tied.{Stands}
@@ -12,5 +12,6 @@ invariant-loop-value g l =
     let now = g.G.Gpu.state l.gpu in
     record {
       stands : Stands now l.mediator;
+      quiet : now.faults ≡ start.faults;
       going : Going (machine_of start l.fn.mediator) (port_writes l.guest l.engine l.values) l.fn.report start (machine_of now l.mediator) (port_writes l.guest l.engine (drop l.value-index l.values)) l.report now;
     }

@@ -1,4 +1,4 @@
-use Rattle.std.proofs.Common.{◌≡◌, ℕ, ◌+◌, ◌*◌, ◌%◌, ◌<◌, length, get_or, drop, refl, sym, ap, subst, arith}
+use Rattle.std.proofs.Common.{◌≡◌, ℕ, ◌+◌, ◌*◌, ◌%◌, ◌<◌, length, get_or, drop, refl, sym, ap, subst, arith, ◌∙◌}
 use Rattle.std.proofs.lemmas.List.{drop_all}
 use Rattle.gv_types.specs.Memory.{bytes_of}
 use Rattle.gv_types.specs.Places.{end_of}
@@ -20,6 +20,7 @@ loop-index-init g c =
     let same : c.args.at + bytes_of c.args.width * 0 ≡ c.args.at = omega arith in
     record {
       stands = c.requires.stands;
+      quiet = refl;
       going = going-all (machine_of start c.args.mediator.now) all _ c.args.report.now start (ap (λ at. writes_of c.args.guest c.args.place c.args.width at values) same);
     }
 
@@ -57,6 +58,7 @@ loop-index-preserved g c =
     let plays = subst (λ b. Plays (input_course m (write b)) d c.loop-index.report e after c.event.new.report) c.bytes.ensures c.in_ok-event.ensures.done in
     record {
       stands = c.in_ok-event.ensures.stands;
+      quiet = c.in_ok-event.ensures.quiet ∙ c.loop-index.invariant.quiet;
       going = going-on first all c.args.report.now start m (write (bytes_of c.args.width)) rest left c.loop-index.report d c.loop-index.invariant.going
           (write-first c.args.guest c.args.place c.args.width c.args.at values i (omega arith)) after c.event.new.report e plays;
     }

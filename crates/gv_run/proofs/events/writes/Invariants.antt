@@ -1,4 +1,4 @@
-use Rattle.std.proofs.Common.{◌+◌, ◌*◌, drop}
+use Rattle.std.proofs.Common.{◌≡◌, ◌+◌, ◌*◌, drop}
 use Rattle.gv_types.specs.Memory.{bytes_of}
 use Rattle.gv_machine.specs.Machine.{writes_of}
 use Rattle.gv_mediator.specs.Tied.{machine_of}
@@ -14,5 +14,6 @@ invariant-loop-index g l =
     let rest = writes_of l.guest l.place l.width (l.at + bytes_of l.width * l.index) (drop l.index l.values) in
     record {
       stands : Stands now l.mediator;
+      quiet : now.faults ≡ start.faults;
       going : Going (machine_of start l.fn.mediator) (writes_of l.guest l.place l.width l.at l.values) l.fn.report start (machine_of now l.mediator) rest l.report now;
     }

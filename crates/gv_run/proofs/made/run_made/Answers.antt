@@ -13,6 +13,7 @@ loop-line-init g c =
       making = making-start c.args.number d (got c.args.outlet.now (g.K.Sink.held c.args.sink.now)) c.into_iter-line-iterator.result c.args.run.now.known (machine_in d c.args.run.now.stage) c.args.run.now.report
           (c.into_iter-line-iterator.ensures.into_iter_gives ∙ c.new-line-items.ensures) c.requires.known (first-machine d c.args.run.now.stage c.requires.stage) c.requires.report;
       strays = refl;
+      quiet = refl;
       writes = omega arith;
     }
 
@@ -55,6 +56,7 @@ loop-line-preserved g c =
     (machine_in e c.line.new.self.stage) c.line.new.self.report e c.line.new.self.known c.in_ok-line.ensures.known done.machine done.report done.ran in
     record {
       agrees = c.in_ok-line.ensures.agrees;
+      quiet = c.in_ok-line.ensures.quiet ∙ c.loop-line.invariant.quiet;
       making = making-passed more c.pass_to.new.self (got c.pass_to.new.outlet (g.K.Sink.held c.pass_to.new.sink)) c.pass_to.ensures.passes;
       strays = done.ran.strays ∙ c.loop-line.invariant.strays;
       writes = omega (arith, c.loop-line.invariant.writes, c.pass_to.ensures.cause.later);

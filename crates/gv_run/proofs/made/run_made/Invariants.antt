@@ -14,5 +14,6 @@ invariant-loop-line g l =
       agrees : Agrees now l.run.known l.run.stage;
       making : Making (script_made l.number) start (got l.fn.outlet (held l.fn.sink)) l.line-iterator l.run.known (machine_in now l.run.stage) l.run.report now (got l.outlet (held l.sink));
       strays : now.strays ≡ start.strays;
+      quiet : now.faults ≡ start.faults;
       writes : g.K.Sink.faults l.fn.sink ≤ g.K.Sink.faults l.sink;
     }

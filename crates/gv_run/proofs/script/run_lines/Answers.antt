@@ -22,6 +22,7 @@ loop-next-init g c =
       within = omega arith;
       limit = ap (λ (s : ReaderState). s.limit) c.requires.reader;
       strays = refl;
+      quiet = refl;
       reads = omega arith;
       writes = omega arith;
     }
@@ -179,6 +180,7 @@ loop-next-preserved g c =
     let known = subst (λ (known : Known). Reading start (held c.args.sink.now) (left c.args.source.now) t (left c.advance.new.source) known (n + 1) m c.line.new.self.report e (held c.loop-next.sink)) (sym c.in_ok-line.ensures.known) more in
     record {
       agrees = c.in_ok-line.ensures.agrees;
+      quiet = c.in_ok-line.ensures.quiet ∙ c.loop-next.invariant.quiet;
       reading = reading-passed known c.pass_on.new.self (held c.pass_on.new.sink) c.pass_on.ensures.passes;
       numbered = number-more c.loop-next.reader t (left c.loop-next.source) (left c.advance.new.source) t.line hands n c.loop-next.invariant.numbered;
       within = omega (arith, c.advance.ensures.bound, hands.limit, c.loop-next.invariant.limit);

@@ -17,6 +17,7 @@ invariant-loop-next g l =
       within : l.reader.taken ≤ script_limit + 1;
       limit : l.reader.limit ≡ script_limit;
       strays : now.strays ≡ start.strays;
+      quiet : now.faults ≡ start.faults;
       reads : g.S.Source.faults l.fn.source ≤ g.S.Source.faults l.source;
       writes : g.K.Sink.faults l.fn.sink ≤ g.K.Sink.faults l.sink;
     }

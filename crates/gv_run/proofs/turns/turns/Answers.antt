@@ -13,6 +13,7 @@ loop-turn-init g c =
     let start = g.G.Gpu.state c.args.gpu.now in
     record {
       stands = c.requires.stands;
+      quiet = refl;
       small = omega arith;
       turning = turning-none (machine_of start c.args.mediator.now) c.args.engine start c.args.report.now;
     }
@@ -68,6 +69,7 @@ loop-turn-preserved g c =
     record {
       stands = stands-played d _ c.loop-turn.mediator c.event.new.self (event (Turn engine) ∷ []) c.loop-turn.invariant.stands ((some, c.requires.engine), tt)
           c.in_ok-reply.ensures.tied c.in_ok-reply.ensures.stops c.in_ok-reply.ensures.quiet (c.in_ok-reply.ensures.machine ∙ event-left m (Turn engine) (m.owners engine.0) refl);
+      quiet = c.in_ok-reply.ensures.quiet ∙ c.loop-turn.invariant.quiet;
       small = subst (λ n. n < 8) (sym (named ∙ number)) (omega arith);
       turning = turning-more m0 engine there c.loop-turn.turn start d c.args.report.now c.loop-turn.report m c.loop-turn.counts c.loop-turn.owner turning c.in_ok-reply.reply c.in_ok-reply.ensures.reply
           _ _ c.tell_alarms.new.report c.count_turn.new.counts c.in_ok-reply.ensures.machine c.in_ok-tell_alarms.ensures c.count_turn.ensures c.in_ok-reply.ensures.ran;

@@ -1,4 +1,4 @@
-use Rattle.std.proofs.Common.{◌<◌}
+use Rattle.std.proofs.Common.{◌≡◌, ◌<◌}
 use Rattle.gv_mediator.specs.Tied.{machine_of}
 use Rattle.gv_run.specs.Tied.{Stands}
 use Rattle.gv_run.proofs.ManyTurns.{Turning}
@@ -10,6 +10,7 @@ invariant-loop-turn g l =
     let now = g.G.Gpu.state l.gpu in
     record {
       stands : Stands now l.mediator;
+      quiet : now.faults ≡ start.faults;
       small : l.owner.0 < 8;
       turning : Turning (machine_of start l.fn.mediator) l.engine l.turn start l.fn.report (machine_of now l.mediator) l.report l.counts l.owner now;
     }
