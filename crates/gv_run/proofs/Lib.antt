@@ -15,3 +15,4 @@ pub mod Streaming
 pub mod Summed
 pub mod WholeScript
 pub mod Words
+mod Stopping

@@ -105,8 +105,7 @@ fn run_source<S: Source, K: Sink, G: Gpu>(
     ensures read { result ≡ Status.ReadFault → Rose (S.faults source.old) (S.faults source.new) }
     ensures write { result ≡ Status.WriteFault → Rose (K.faults sink.old) (K.faults sink.new) }
     ensures device { result ≡ Status.DeviceFault → counted (G.state gpu.old).faults ≤ (G.state gpu.new).faults }
-    ensures quiet { tells_ending result ≡ true → (G.state gpu.new).faults ≡ (G.state gpu.old).faults }
-    ensures memory { result ≡ Status.OutOfMemory → (G.state gpu.new).faults ≡ (G.state gpu.old).faults }
+    ensures quiet { result ≢ Status.DeviceFault → (G.state gpu.new).faults ≡ (G.state gpu.old).faults }
     ensures complete { ¬ Rose (S.faults source.old) (S.faults source.new) → ¬ Rose (K.faults sink.old) (K.faults sink.new)
         → ¬ (counted (G.state gpu.old).faults ≤ (G.state gpu.new).faults)
         → result ≢ Status.OutOfMemory → tells_ending result ≡ true }
@@ -131,8 +130,7 @@ fn sum_number_up<K: Sink, G: Gpu>(alloc: Global, number: u32, sink: &mut K, gpu:
     ensures read { result ≢ Status.ReadFault }
     ensures write { result ≡ Status.WriteFault → Rose (K.faults sink.old) (K.faults sink.new) }
     ensures device { result ≡ Status.DeviceFault → counted (G.state gpu.old).faults ≤ (G.state gpu.new).faults }
-    ensures quiet { tells_ending result ≡ true → (G.state gpu.new).faults ≡ (G.state gpu.old).faults }
-    ensures memory { result ≡ Status.OutOfMemory → (G.state gpu.new).faults ≡ (G.state gpu.old).faults }
+    ensures quiet { result ≢ Status.DeviceFault → (G.state gpu.new).faults ≡ (G.state gpu.old).faults }
     ensures complete { ¬ Rose (K.faults sink.old) (K.faults sink.new)
         → ¬ (counted (G.state gpu.old).faults ≤ (G.state gpu.new).faults)
         → result ≢ Status.OutOfMemory → result ≡ Status.Done }
@@ -206,15 +204,14 @@ pub fn mediate<S: Source, K: Sink, G: Gpu>(
         → tells_ending result ≡ true → result ≡ Status.Done }
 
     // Why each other status comes. Reading the words takes memory, which may be wanting. A fault of the device is never
-    // passed over, nor told as want of memory.
+    // passed over, nor told as anything else.
     ensures words { result ≡ Status.BadWords → NamesNothing (map (λ word. word.now) words.now) }
     ensures refused { NamesNothing (map (λ word. word.now) words.now) → (result ≡ Status.BadWords) ⊎ (result ≡ Status.OutOfMemory) }
     ensures unchanged { NamesNothing (map (λ word. word.now) words.now) → (source.new ≡ source.old) × (sink.new ≡ sink.old) × (gpu.new ≡ gpu.old) }
     ensures read { result ≡ Status.ReadFault → Rose (S.faults source.old) (S.faults source.new) }
     ensures write { result ≡ Status.WriteFault → Rose (K.faults sink.old) (K.faults sink.new) }
     ensures device { result ≡ Status.DeviceFault → counted (G.state gpu.old).faults ≤ (G.state gpu.new).faults }
-    ensures quiet { tells_ending result ≡ true → (G.state gpu.new).faults ≡ (G.state gpu.old).faults }
-    ensures memory { result ≡ Status.OutOfMemory → (G.state gpu.new).faults ≡ (G.state gpu.old).faults }
+    ensures quiet { result ≢ Status.DeviceFault → (G.state gpu.new).faults ≡ (G.state gpu.old).faults }
     ensures complete { NamesRun (map (λ word. word.now) words.now)
         → ¬ Rose (S.faults source.old) (S.faults source.new) → ¬ Rose (K.faults sink.old) (K.faults sink.new)
         → ¬ (counted (G.state gpu.old).faults ≤ (G.state gpu.new).faults)

@@ -48,6 +48,7 @@ fn run_made<K: Sink, G: Gpu>(
     ensures device { result ≡ Err Stopped.Device → 0 < (G.state gpu.new).faults }
     ensures quiet { OnOk result ((G.state gpu.new).faults ≡ (G.state gpu.old).faults) }
     ensures memory { result ≡ Err Stopped.OutOfMemory → (G.state gpu.new).faults ≡ (G.state gpu.old).faults }
+    ensures writing { result ≡ Err Stopped.Write → (G.state gpu.new).faults ≡ (G.state gpu.old).faults }
     ensures later { K.faults sink.old ≤ K.faults sink.new }
 {
     for line in Script::new(number) {
@@ -86,6 +87,7 @@ pub fn run_number<K: Sink, G: Gpu>(
     ensures device { result ≡ Err Stopped.Device → 0 < (G.state gpu.new).faults }
     ensures quiet { OnOk result ((G.state gpu.new).faults ≡ (G.state gpu.old).faults) }
     ensures memory { result ≡ Err Stopped.OutOfMemory → (G.state gpu.new).faults ≡ (G.state gpu.old).faults }
+    ensures writing { result ≡ Err Stopped.Write → (G.state gpu.new).faults ≡ (G.state gpu.old).faults }
 {
     let mut run = Run::new(alloc)?;
     let mut outlet = Outlet::Totals(Totals::NONE);

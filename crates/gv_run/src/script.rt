@@ -70,6 +70,8 @@ fn run_lines<S: Source, K: Sink, G: Gpu>(
     ensures device { result ≡ Err Stopped.Device → 0 < (G.state gpu.new).faults }
     ensures quiet { OnOk result ((G.state gpu.new).faults ≡ (G.state gpu.old).faults) }
     ensures memory { result ≡ Err Stopped.OutOfMemory → (G.state gpu.new).faults ≡ (G.state gpu.old).faults }
+    ensures reading { result ≡ Err Stopped.Read → (G.state gpu.new).faults ≡ (G.state gpu.old).faults }
+    ensures writing { result ≡ Err Stopped.Write → (G.state gpu.new).faults ≡ (G.state gpu.old).faults }
     ensures later { K.faults sink.old ≤ K.faults sink.new }
 {
     let mut number = 1u64;
@@ -118,6 +120,8 @@ pub fn run_script<S: Source, K: Sink, G: Gpu>(
     ensures device { result ≡ Err Stopped.Device → 0 < (G.state gpu.new).faults }
     ensures quiet { OnOk result ((G.state gpu.new).faults ≡ (G.state gpu.old).faults) }
     ensures memory { result ≡ Err Stopped.OutOfMemory → (G.state gpu.new).faults ≡ (G.state gpu.old).faults }
+    ensures reading { result ≡ Err Stopped.Read → (G.state gpu.new).faults ≡ (G.state gpu.old).faults }
+    ensures writing { result ≡ Err Stopped.Write → (G.state gpu.new).faults ≡ (G.state gpu.old).faults }
 {
     let mut run = Run::new(alloc)?;
     let mut reader = LineReader::new(alloc, LIMIT)?;
