@@ -6,7 +6,7 @@ use Rattle.std.proofs.lemmas.List.{get_or-take, length-take}
 use Rattle.std.proofs.lemmas.Bool.Decides.{nat_tests}
 use Rattle.gv_cmd.specs.Table.{length_of, kind_of}
 use Rattle.gv_cmd.specs.Padded.{padded}
-use Rattle.gv_cmd.specs.Command.{IsCommand, front, decoded}
+use Rattle.gv_cmd.specs.Command.{IsCommand, decoded_by, decoded}
 use Rattle.gv_cmd.specs.Kept.{IsKept}
 use Rattle.gv_cmd.specs.declared.command.Command.TheInside.{Inside}
 
@@ -41,7 +41,7 @@ module _ (ws : List ℕ) (n : ℕ) (named : length_of (get_or ws 0 0) ≡ Some n
   }
 
   pub decoded_is : decoded ws ≡ Ok (take n ws, n)
-  decoded_is = ap (λ o. front o ws) named ∙ ap (λ b. cond b (Ok (take n ws, n)) (Err record {})) (both n (length ws) (is_some (kind_of (take n ws))) within fits)
+  decoded_is = ap (λ o. decoded_by o ws) named ∙ ap (λ b. cond b (Ok (take n ws, n)) (Err record {})) (both n (length ws) (is_some (kind_of (take n ws))) within fits)
 
 -- a command stands for itself, whatever follows
 pub decoded-append : (ws rest : List ℕ) → 1 ≤ length ws → IsCommand ws → decoded (ws ++ rest) ≡ Ok (ws, length ws)

@@ -2,7 +2,8 @@
 use Rattle.std.proofs.Common.{◌≡◌, ℕ, ◌+◌, ◌≤◌, ◌&&◌, ◌||◌, Bool, true, false, List, ◌++◌, length, get_or, Option, None, Some, Ok, cond, eqb, leb, refl, subst, arith, lit≤}
 use Rattle.std.specs.Prelude.{IfSome}
 use Rattle.std.proofs.lemmas.Bool.Decides.{nat_tests}
-use Rattle.gv_cmd.specs.Bits.{bit, bits}
+use Rattle.gv_types.specs.Bits.{has_bit}
+use Rattle.gv_cmd.specs.Bits.{bits}
 use Rattle.gv_cmd.specs.Kind.{IsLength}
 use Rattle.gv_cmd.specs.Table.{exactly, semaphore_length, store_length, load_registers_length, flush_length, interface_length, blit_length, length_of}
 use Rattle.gv_cmd.specs.Command.{IsCommand, decoded}
@@ -39,8 +40,8 @@ interface_form : (o h : ℕ) → IfSome (interface_length o h) IsLength
 interface_form o h =
     by_if (eqb o 0x00 || eqb o 0x02 || eqb o 0x05 || eqb o 0x08 || eqb o 0x0A) (Some 1) _ (lit≤ tt, lit≤ tt) (
     by_if (eqb o 0x1C) (semaphore_length h) _ (by_if _ _ None (four (bits h 7 0)) tt) (
-    by_if (eqb o 0x20) (store_length h) _ (by_if (bit h 21) _ _ (five (bits h 9 0)) (four (bits h 9 0))) (
-    by_if (eqb o 0x22) (load_registers_length h) _ (registers_by (bit h 0) _ (bits h 7 0) refl) (
+    by_if (eqb o 0x20) (store_length h) _ (by_if (has_bit h 21) _ _ (five (bits h 9 0)) (four (bits h 9 0))) (
+    by_if (eqb o 0x22) (load_registers_length h) _ (registers_by (has_bit h 0) _ (bits h 7 0) refl) (
     by_if (eqb o 0x24) _ _ (four (bits h 7 0)) (
     by_if (eqb o 0x26) (flush_length h) _ (flush_form h) (
     by_if (eqb o 0x29) _ _ (four (bits h 7 0)) (
@@ -50,7 +51,7 @@ interface_form o h =
 
 blit_form : (o h : ℕ) → IfSome (blit_length o h) IsLength
 blit_form o h =
-    by_if (bit h 15 || bit h 11) None _ tt (
+    by_if (has_bit h 15 || has_bit h 11) None _ tt (
     by_if (eqb o 0x50) _ _ (exact 7 (bits h 7 0) (lit≤ tt) (lit≤ tt)) (
     by_if (eqb o 0x53) _ None (exact 10 (bits h 7 0) (lit≤ tt) (lit≤ tt)) tt))
 

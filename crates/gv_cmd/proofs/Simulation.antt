@@ -5,7 +5,8 @@ use Rattle.std.proofs.lemmas.Bool.Decides.{nat_tests}
 use Rattle.gv_cmd.specs.Bits.{register}
 use Rattle.gv_cmd.specs.Table.{kind_of}
 use Rattle.gv_cmd.specs.Rows.{rows}
-use Rattle.gv_cmd.specs.Effect.{Operations, ran, base_of, general_of, read_by, set_by, loaded_by, register_set, registers_set, dwords_stored, post_written, rows_copied, rows_filled, compares, is_skipped, waited, performed, effect_of}
+use Rattle.gv_types.specs.Engines.{register_base}
+use Rattle.gv_cmd.specs.Effect.{Operations, ran, general_of, general_read_by, general_set_by, general_loaded_by, engine_register_set, engine_registers_set, dwords_stored, post_written, rows_copied, rows_filled, compares, is_skipped, waited, performed, effect_of}
 use Rattle.gv_cmd.specs.Simulation.{Access, access, dwords_at, post_accesses, accesses, EachAccess, MayDo, Simulates, SameEffect, EffectsAgree}
 use Rattle.gv_cmd.specs.declared.blit.Blit.{Blit}
 use Rattle.gv_cmd.specs.declared.blit.RowPair.{RowPair}
@@ -19,32 +20,32 @@ general_by false c r h = tt
 
 -- a general register is one of 32 dwords
 pub general_of-small : (engine register : ℕ) → IfSome (general_of engine register) (λ n. n < 32)
-general_of-small engine register = general_by _ (base_of engine) register refl
+general_of-small engine register = general_by _ (register_base engine) register refl
 
 module _ {A B : Type 0} (a : Operations A) (b : Operations B) (Same : A → B → Type 0) (May : Access → Type 0) (sim : Simulates a b Same May) where
-  read : (x : A) (y : B) (n : Option ℕ) → IfSome n (λ k. k < 32) → Same x y → read_by a x n ≡ read_by b y n
+  read : (x : A) (y : B) (n : Option ℕ) → IfSome n (λ k. k < 32) → Same x y → general_read_by a x n ≡ general_read_by b y n
   read x y None small same = refl
   read x y (Some n) small same = sim.general_gives x y n small same
 
-  set : (x : A) (y : B) (n : Option ℕ) (value : ℕ) → IfSome n (λ k. k < 32) → Same x y → Same (set_by a x n value) (set_by b y n value)
+  set : (x : A) (y : B) (n : Option ℕ) (value : ℕ) → IfSome n (λ k. k < 32) → Same x y → Same (general_set_by a x n value) (general_set_by b y n value)
   set x y None value small same = same
   set x y (Some n) value small same = sim.general_set x y n value small same
 
   -- the same, where the values are equal
-  set_equal : (x : A) (y : B) (n : Option ℕ) (v w : ℕ) → v ≡ w → IfSome n (λ k. k < 32) → Same x y → Same (set_by a x n v) (set_by b y n w)
-  set_equal x y n v w is small same = subst (λ u. Same (set_by a x n v) (set_by b y n u)) is (set x y n v small same)
+  set_equal : (x : A) (y : B) (n : Option ℕ) (v w : ℕ) → v ≡ w → IfSome n (λ k. k < 32) → Same x y → Same (general_set_by a x n v) (general_set_by b y n w)
+  set_equal x y n v w is small same = subst (λ u. Same (general_set_by a x n v) (general_set_by b y n u)) is (set x y n v small same)
 
   store_equal : (x : A) (y : B) (global : Bool) (at v w : ℕ) → v ≡ w → Same x y → May (access global at) → Same (a.stored x global at v) (b.stored y global at w)
   store_equal x y global at v w is same may = subst (λ u. Same (a.stored x global at v) (b.stored y global at u)) is (sim.stored x y global at v same may)
 
-  registers : (engine : ℕ) (x : A) (y : B) (ws : List ℕ) → Same x y → Same (registers_set a engine x ws) (registers_set b engine y ws)
+  registers : (engine : ℕ) (x : A) (y : B) (ws : List ℕ) → Same x y → Same (engine_registers_set a engine x ws) (engine_registers_set b engine y ws)
   registers engine x y [] same = same
   registers engine x y (r ∷ []) same = same
   registers engine x y (r ∷ value ∷ ws) same =
-      registers engine (register_set a engine x (register (r ∷ []) 0) value) (register_set b engine y (register (r ∷ []) 0) value) ws
+      registers engine (engine_register_set a engine x (register (r ∷ []) 0) value) (engine_register_set b engine y (register (r ∷ []) 0) value) ws
       (set x y (general_of engine (register (r ∷ []) 0)) value (general_of-small engine (register (r ∷ []) 0)) same)
 
-  load : (x : A) (y : B) (n : Option ℕ) (global : Bool) (at : ℕ) → IfSome n (λ k. k < 32) → Same x y → May (access global at) → Same (loaded_by a x n global at) (loaded_by b y n global at)
+  load : (x : A) (y : B) (n : Option ℕ) (global : Bool) (at : ℕ) → IfSome n (λ k. k < 32) → Same x y → May (access global at) → Same (general_loaded_by a x n global at) (general_loaded_by b y n global at)
   load x y None global at small same may = same
   load x y (Some n) global at small same may =
       set_equal (a.load_leaves x global at) (b.load_leaves y global at) (Some n) (a.load_gives x global at) (b.load_gives y global at)

@@ -1,9 +1,6 @@
--- Bits of a dword, and the operands that several rows of the command table share. A command is given
+-- Fields of a dword, and the operands that several rows of the command table share. A command is given
 -- as the list of its dwords.
-use Rattle.std.specs.Prelude.{ℕ, ◌+◌, ◌-◌, ◌*◌, ◌/◌, ◌%◌, ◌^◌, ◌==◌, Bool, List, slice_index}
-
-abbrev pub bit : ℕ → ℕ → Bool
-bit dword n = dword / 2 ^ n % 2 == 1
+use Rattle.std.specs.Prelude.{ℕ, ◌+◌, ◌-◌, ◌*◌, ◌/◌, ◌%◌, ◌^◌, List, slice_index}
 
 -- the bits from high down to low, as a number
 abbrev pub bits : ℕ → ℕ → ℕ → ℕ

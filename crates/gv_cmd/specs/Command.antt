@@ -10,13 +10,13 @@ pub record IsCommand (ws : List ℕ) : Type 0 where
   pub kind : is_some (kind_of ws) ≡ true
 
 -- the command at the front and its length, where the header names that length
-abbrev pub front : Option ℕ → List ℕ → Result (List ℕ × ℕ) Unlisted
-front None ws = Err record {}
-front (Some n) ws = if nat_le n (length ws) && is_some (kind_of (take n ws)) then Ok (take n ws, n) else Err record {}
+abbrev pub decoded_by : Option ℕ → List ℕ → Result (List ℕ × ℕ) Unlisted
+decoded_by None ws = Err record {}
+decoded_by (Some n) ws = if nat_le n (length ws) && is_some (kind_of (take n ws)) then Ok (take n ws, n) else Err record {}
 
 -- decoding: the command at the front of a list of dwords and its length, or that no row fits
 abbrev pub decoded : List ℕ → Result (List ℕ × ℕ) Unlisted
-decoded ws = front (length_of (slice_index ws 0)) ws
+decoded ws = decoded_by (length_of (slice_index ws 0)) ws
 
 -- what stands at the front: a command with its length
 pub record IsFront (ws : List ℕ) (r : List ℕ × ℕ) : Type 0 where

@@ -1,6 +1,7 @@
 -- What a command does to a space, written over what the space's operations mean.
 use Rattle.std.specs.Prelude.{ℕ, ◌+◌, ◌-◌, ◌/◌, ◌%◌, ◌==◌, ◌&&◌, ◌||◌, not, max, nat_le, nat_lt, slice_index, Bool, true, false, List, [], ◌∷◌, drop, fold, if◌then◌else◌, Option, None, Some, is_none}
 use Rattle.std.specs.Int.{to_le_bytes, w32}
+use Rattle.gv_types.specs.Engines.{register_base}
 use Rattle.gv_cmd.specs.Bits.{register}
 use Rattle.gv_cmd.specs.Table.{kind_of}
 use Rattle.gv_cmd.specs.Rows.{rows}
@@ -39,42 +40,38 @@ waits s = record { after = s; raise = None }
 
 -- ---- general registers
 
--- where an engine's registers begin
-abbrev pub base_of : ℕ → ℕ
-base_of engine = if engine == 0 then 0x2000 else (if engine == 1 then 0x22000 else (if engine == 2 then 0x12000 else 0x1A000))
-
 -- The general registers of an engine are its dwords 0x600 to 0x67C. No other register is general.
 abbrev pub general_of : ℕ → ℕ → Option ℕ
 general_of engine register =
-    if nat_le (base_of engine + 0x600) register && nat_lt register (base_of engine + 0x680)
-    then Some ((register - (base_of engine + 0x600)) / 4)
+    if nat_le (register_base engine + 0x600) register && nat_lt register (register_base engine + 0x680)
+    then Some ((register - (register_base engine + 0x600)) / 4)
     else None
 
 -- a register that isn't general reads 0, and isn't changed
-abbrev pub read_by : {S : Type 0} → Operations S → S → Option ℕ → ℕ
-read_by ops s None = 0
-read_by ops s (Some n) = ops.general_gives s n
+abbrev pub general_read_by : {S : Type 0} → Operations S → S → Option ℕ → ℕ
+general_read_by ops s None = 0
+general_read_by ops s (Some n) = ops.general_gives s n
 
-abbrev pub set_by : {S : Type 0} → Operations S → S → Option ℕ → ℕ → S
-set_by ops s None value = s
-set_by ops s (Some n) value = ops.general_set s n value
+abbrev pub general_set_by : {S : Type 0} → Operations S → S → Option ℕ → ℕ → S
+general_set_by ops s None value = s
+general_set_by ops s (Some n) value = ops.general_set s n value
 
-abbrev pub register_read : {S : Type 0} → Operations S → ℕ → S → ℕ → ℕ
-register_read ops engine s register = read_by ops s (general_of engine register)
+abbrev pub engine_register_read : {S : Type 0} → Operations S → ℕ → S → ℕ → ℕ
+engine_register_read ops engine s register = general_read_by ops s (general_of engine register)
 
-abbrev pub register_set : {S : Type 0} → Operations S → ℕ → S → ℕ → ℕ → S
-register_set ops engine s register value = set_by ops s (general_of engine register) value
+abbrev pub engine_register_set : {S : Type 0} → Operations S → ℕ → S → ℕ → ℕ → S
+engine_register_set ops engine s register value = general_set_by ops s (general_of engine register) value
 
 -- pairs of register and value, in order
-abbrev pub registers_set : {S : Type 0} → Operations S → ℕ → S → List ℕ → S
-registers_set ops engine s [] = s
-registers_set ops engine s (r ∷ []) = s
-registers_set ops engine s (r ∷ value ∷ pairs) = registers_set ops engine (register_set ops engine s (register (r ∷ []) 0) value) pairs
+abbrev pub engine_registers_set : {S : Type 0} → Operations S → ℕ → S → List ℕ → S
+engine_registers_set ops engine s [] = s
+engine_registers_set ops engine s (r ∷ []) = s
+engine_registers_set ops engine s (r ∷ value ∷ pairs) = engine_registers_set ops engine (engine_register_set ops engine s (register (r ∷ []) 0) value) pairs
 
 -- a general register takes what is loaded; for another one nothing is loaded
-abbrev pub loaded_by : {S : Type 0} → Operations S → S → Option ℕ → Bool → ℕ → S
-loaded_by ops s None global at = s
-loaded_by ops s (Some n) global at = ops.general_set (ops.load_leaves s global at) n (ops.load_gives s global at)
+abbrev pub general_loaded_by : {S : Type 0} → Operations S → S → Option ℕ → Bool → ℕ → S
+general_loaded_by ops s None global at = s
+general_loaded_by ops s (Some n) global at = ops.general_set (ops.load_leaves s global at) n (ops.load_gives s global at)
 
 -- ---- memory
 
@@ -132,10 +129,10 @@ abbrev pub performed : {S : Type 0} → Operations S → List ℕ → ℕ → S 
 performed ops ws engine s UserInterrupt = ran s 0x1
 performed ops ws engine s (SemaphoreWait global compare operand at) = waited (compares compare (ops.load_gives s global at) operand) (ops.load_leaves s global at)
 performed ops ws engine s (Store global at low high) = ran (dwords_stored ops s global at low high) 0
-performed ops ws engine s (LoadRegisters pairs) = ran (registers_set ops engine s (drop 1 ws)) 0
-performed ops ws engine s (StoreRegister global register at) = ran (ops.stored s global at (register_read ops engine s register)) 0
-performed ops ws engine s (LoadRegister global register at) = ran (loaded_by ops s (general_of engine register) global at) 0
-performed ops ws engine s (MoveRegister from to) = ran (register_set ops engine s to (register_read ops engine s from)) 0
+performed ops ws engine s (LoadRegisters pairs) = ran (engine_registers_set ops engine s (drop 1 ws)) 0
+performed ops ws engine s (StoreRegister global register at) = ran (ops.stored s global at (engine_register_read ops engine s register)) 0
+performed ops ws engine s (LoadRegister global register at) = ran (general_loaded_by ops s (general_of engine register) global at) 0
+performed ops ws engine s (MoveRegister from to) = ran (engine_register_set ops engine s to (engine_register_read ops engine s from)) 0
 performed ops ws engine s (CopyMemory from_global from to_global to) = ran (ops.stored (ops.load_leaves s from_global from) to_global to (ops.load_gives s from_global from)) 0
 performed ops ws engine s (Flush write) = ran (post_written ops s write) 0
 performed ops ws engine s (PipeControl notify write) = ran (post_written ops s write) (if notify then 0x10 else 0)

@@ -1,7 +1,8 @@
 -- The command table: which headers are listed, with how many dwords, and what the fields of each row
 -- are. A command is the list of its dwords, the header first.
 use Rattle.std.specs.Prelude.{ℕ, ◌+◌, ◌-◌, ◌/◌, ◌==◌, ◌&&◌, ◌||◌, not, nat_le, nat_lt, Bool, List, length, slice_index, if◌then◌else◌, Option, None, Some}
-use Rattle.gv_cmd.specs.Bits.{bit, bits, register, byte_address, dword_address, quadword_address}
+use Rattle.gv_types.specs.Bits.{has_bit}
+use Rattle.gv_cmd.specs.Bits.{bits, register, byte_address, dword_address, quadword_address}
 use Rattle.gv_cmd.specs.declared.blit.Blit.{Blit}
 use Rattle.gv_cmd.specs.declared.kind.Kind.{Kind}
 use Rattle.gv_cmd.specs.declared.kind.Kind.TheVariants.{Noop, UserInterrupt, ArbCheck, ArbOnOff, BatchEnd, SemaphoreWait, Store, LoadRegisters, StoreRegister, LoadRegister, MoveRegister, CopyMemory, Flush, PipeControl, BatchStart, ColourBlit, CopyBlit}
@@ -14,20 +15,20 @@ exactly n field = if field + 2 == n then Some n else None
 
 -- SEMAPHORE_WAIT: bit 15 must be set, and the comparison (bits 14..12) is 0 to 5
 abbrev pub semaphore_length : ℕ → Option ℕ
-semaphore_length h = if bit h 15 && nat_lt (bits h 14 12) 6 then exactly 4 (bits h 7 0) else None
+semaphore_length h = if has_bit h 15 && nat_lt (bits h 14 12) 6 then exactly 4 (bits h 7 0) else None
 
 -- STORE_DATA_IMM: 4 dwords, or 5 with bit 21
 abbrev pub store_length : ℕ → Option ℕ
-store_length h = if bit h 21 then exactly 5 (bits h 9 0) else exactly 4 (bits h 9 0)
+store_length h = if has_bit h 21 then exactly 5 (bits h 9 0) else exactly 4 (bits h 9 0)
 
 -- LOAD_REGISTER_IMM: 1 + 2 * n dwords, n from 1 to 32, so that the length field is odd and below 64
 abbrev pub load_registers_length : ℕ → Option ℕ
-load_registers_length h = if bit h 0 && nat_le (bits h 7 0 + 2) 65 then Some (bits h 7 0 + 2) else None
+load_registers_length h = if has_bit h 0 && nat_le (bits h 7 0 + 2) 65 then Some (bits h 7 0 + 2) else None
 
 -- FLUSH_DW: 4 or 5 dwords; bits 15..14 are 0 or 1, and bit 21 is clear
 abbrev pub flush_length : ℕ → Option ℕ
 flush_length h =
-    if nat_lt (bits h 15 14) 2 && not (bit h 21)
+    if nat_lt (bits h 15 14) 2 && not (has_bit h 21)
     then (if bits h 5 0 == 3 then Some 5 else exactly 4 (bits h 5 0))
     else None
 
@@ -49,7 +50,7 @@ interface_length opcode h =
 -- Blits: bits 15 and 11 mean tiling, and no row is tiled.
 abbrev pub blit_length : ℕ → ℕ → Option ℕ
 blit_length opcode h =
-    if bit h 15 || bit h 11 then None
+    if has_bit h 15 || has_bit h 11 then None
     else (if opcode == 0x50 then exactly 7 (bits h 7 0)
     else (if opcode == 0x53 then exactly 10 (bits h 7 0)
     else None))
@@ -71,30 +72,30 @@ read_length (Some n) = n
 -- ---- the fields, row by row: None where a rule on another dword than the header isn't kept
 
 abbrev pub semaphore : List ℕ → Kind
-semaphore ws = SemaphoreWait (bit (slice_index ws 0) 22) (bits (slice_index ws 0) 14 12) (slice_index ws 1) (dword_address ws 2)
+semaphore ws = SemaphoreWait (has_bit (slice_index ws 0) 22) (bits (slice_index ws 0) 14 12) (slice_index ws 1) (dword_address ws 2)
 
 abbrev pub store : List ℕ → Kind
-store ws = Store (bit (slice_index ws 0) 22) (dword_address ws 1) (slice_index ws 3) (if bit (slice_index ws 0) 21 then Some (slice_index ws 4) else None)
+store ws = Store (has_bit (slice_index ws 0) 22) (dword_address ws 1) (slice_index ws 3) (if has_bit (slice_index ws 0) 21 then Some (slice_index ws 4) else None)
 
 -- how many pairs of dwords follow a header
 abbrev pub pair_count : List ℕ → ℕ
 pair_count ws = (length ws - 1) / 2
 
 abbrev pub store_register : List ℕ → Kind
-store_register ws = StoreRegister (bit (slice_index ws 0) 22) (register ws 1) (dword_address ws 2)
+store_register ws = StoreRegister (has_bit (slice_index ws 0) 22) (register ws 1) (dword_address ws 2)
 
 abbrev pub load_register : List ℕ → Kind
-load_register ws = LoadRegister (bit (slice_index ws 0) 22) (register ws 1) (dword_address ws 2)
+load_register ws = LoadRegister (has_bit (slice_index ws 0) 22) (register ws 1) (dword_address ws 2)
 
 -- bit 22: the source is global; bit 21: the destination is
 abbrev pub copy_memory : List ℕ → Kind
-copy_memory ws = CopyMemory (bit (slice_index ws 0) 22) (dword_address ws 3) (bit (slice_index ws 0) 21) (dword_address ws 1)
+copy_memory ws = CopyMemory (has_bit (slice_index ws 0) 22) (dword_address ws 3) (has_bit (slice_index ws 0) 21) (dword_address ws 1)
 
 -- Bits 15..14 of the header say whether FLUSH_DW writes, bit 2 of the address's low dword whether
 -- globally.
 abbrev pub flush : List ℕ → Kind
 flush ws = Flush (if bits (slice_index ws 0) 15 14 == 1 then Some record {
-  global = bit (slice_index ws 1) 2;
+  global = has_bit (slice_index ws 1) 2;
   at = quadword_address ws 1;
   low = slice_index ws 3;
   high = if bits (slice_index ws 0) 5 0 == 3 then Some (slice_index ws 4) else None;
@@ -103,8 +104,8 @@ flush ws = Flush (if bits (slice_index ws 0) 15 14 == 1 then Some record {
 -- Of the flags, bits 15..14 say whether PIPE_CONTROL writes, bit 24 whether globally, bit 8 whether it
 -- notifies.
 abbrev pub pipe_fields : List ℕ → Kind
-pipe_fields ws = PipeControl (bit (slice_index ws 1) 8) (if bits (slice_index ws 1) 15 14 == 1 then Some record {
-  global = bit (slice_index ws 1) 24;
+pipe_fields ws = PipeControl (has_bit (slice_index ws 1) 8) (if bits (slice_index ws 1) 15 14 == 1 then Some record {
+  global = has_bit (slice_index ws 1) 24;
   at = quadword_address ws 2;
   low = slice_index ws 4;
   high = Some (slice_index ws 5);
@@ -113,10 +114,10 @@ pipe_fields ws = PipeControl (bit (slice_index ws 1) 8) (if bits (slice_index ws
 -- flags with 2 or 3 in bits 15..14, or with bit 21, are unlisted
 abbrev pub pipe_control : List ℕ → Option Kind
 pipe_control ws =
-    if nat_lt (bits (slice_index ws 1) 15 14) 2 && not (bit (slice_index ws 1) 21) then Some (pipe_fields ws) else None
+    if nat_lt (bits (slice_index ws 1) 15 14) 2 && not (has_bit (slice_index ws 1) 21) then Some (pipe_fields ws) else None
 
 abbrev pub batch_start : List ℕ → Kind
-batch_start ws = BatchStart (bit (slice_index ws 0) 8) (bit (slice_index ws 0) 22) (dword_address ws 1)
+batch_start ws = BatchStart (has_bit (slice_index ws 0) 8) (has_bit (slice_index ws 0) 22) (dword_address ws 1)
 
 -- depth, bits 25..24 of BR13, as bytes of a pixel
 abbrev pub pixel_bytes : ℕ → ℕ
@@ -128,8 +129,8 @@ abbrev pub is_plain : ℕ → List ℕ → Bool
 is_plain raster ws =
     bits (slice_index ws 1) 23 16 == raster
     && not (bits (slice_index ws 1) 25 24 == 2)
-    && (not (bits (slice_index ws 1) 25 24 == 3) || (bit (slice_index ws 0) 21 && bit (slice_index ws 0) 20))
-    && not (bit (slice_index ws 1) 30)
+    && (not (bits (slice_index ws 1) 25 24 == 3) || (has_bit (slice_index ws 0) 21 && has_bit (slice_index ws 0) 20))
+    && not (has_bit (slice_index ws 1) 30)
 
 -- no coordinate above 4096 and no pitch above 32767
 abbrev pub is_small : Blit → Bool

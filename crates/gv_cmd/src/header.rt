@@ -1,5 +1,6 @@
 ghost use Rattle.std.specs.Prelude.{◌≡◌, ◌<◌, ◌≤◌, ◌^◌, IfSome, Option};
-ghost use Rattle.gv_cmd.specs.Bits.{bit, bits};
+ghost use Rattle.gv_types.specs.Bits.{has_bit};
+ghost use Rattle.gv_cmd.specs.Bits.{bits};
 ghost use Rattle.gv_cmd.specs.Table.{exactly, semaphore_length, store_length, load_registers_length, flush_length, interface_length, blit_length, length_of};
 ghost use Rattle.gv_cmd.specs.Kind.{IsLength};
 
@@ -44,7 +45,7 @@ pub(crate) const XY_SRC_COPY_BLT: u32 = 0x53;
 
 pub(crate) fn bit(dword: u32, n: u8) -> bool
     requires { n < 32 }
-    ensures { result ≡ bit dword n }
+    ensures { result ≡ has_bit dword n }
 {
     (dword >> n) & 1 == 1
 }

@@ -1,5 +1,6 @@
 ghost use Rattle.std.specs.Prelude.{◌≡◌, ◌+◌, ◌*◌, ◌%◌, ◌<◌, ◌≤◌, ◌^◌, IfSome, length, slice_index, Some};
-ghost use Rattle.gv_cmd.specs.Bits.{bit, bits, register, high_part, byte_address, dword_address, quadword_address};
+ghost use Rattle.gv_types.specs.Bits.{has_bit};
+ghost use Rattle.gv_cmd.specs.Bits.{bits, register, high_part, byte_address, dword_address, quadword_address};
 ghost use Rattle.gv_cmd.specs.Table.{semaphore, store, pair_count, store_register, load_register, copy_memory, flush, pipe_control, batch_start, pixel_bytes, is_plain, is_small, colour_fields, copy_fields, colour_blit, copy_blit, interface_kind, blit_kind, kind_of_header, kind_of};
 ghost use Rattle.gv_cmd.specs.Kind.{IsKindOf, IsBlit, IsDwordAddress, IsRegister};
 

@@ -4,7 +4,7 @@ use Rattle.std.specs.Int.{from_le_bytes, w32}
 use Rattle.gv_types.specs.Bits.{byte_of, with_byte}
 use Rattle.gv_types.specs.Memory.{half_of, with_half}
 use Rattle.gv_gpu.specs.Device.{Device, Loaded, with_faults}
-use Rattle.gv_gpu.specs.Physical.{live_page, page_of, entry_in, third_table, second_table, first_table, leaf, entry_at, read_page, write_page, word_in, word_stored, byte_at, byte_stored, operand_at, operand_stored, dword_at, page_strays, walk_strays, read_strays, dword_strays, is_page, image_of, is_own_image, is_anothers, is_shadow, written_strays, write_strays}
+use Rattle.gv_gpu.specs.Physical.{live_page, page_of, entry_in, third_table, second_table, first_table, leaf, physical_entry, read_page, write_page, word_in, word_stored, byte_at, byte_stored, operand_at, operand_stored, dword_at, page_strays, walk_strays, read_strays, dword_strays, is_page, image_address, is_own_image, is_anothers, is_shadow, written_strays, write_strays}
 
 module _ (n : ℕ) where
   -- the device with another count of faults
@@ -39,7 +39,7 @@ module _ (n : ℕ) where
       ap (λ t. entry_in (other d) t (at / 2 ^ 12 % 512)) (first_table-other d root at)
       ∙ entry_in-other d (first_table d root at) (at / 2 ^ 12 % 512)
 
-  entry_at-other : (d : Device) (root : ℕ) (global : Bool) (at : ℕ) → entry_at (other d) root global at ≡ entry_at d root global at
+  entry_at-other : (d : Device) (root : ℕ) (global : Bool) (at : ℕ) → physical_entry (other d) root global at ≡ physical_entry d root global at
   entry_at-other d root true at = refl
   entry_at-other d root false at = leaf-other d root at
 
@@ -128,8 +128,8 @@ module _ (n : ℕ) where
   is_own_image-other : (d : Device) (l : Loaded) (page : ℕ) → is_own_image (other d) l page ≡ is_own_image d l page
   unfolding is_own_image
   is_own_image-other d l page = λ i.
-      is_page (read_page-other d l.root true (image_of l.descriptor) i) page
-      || is_page (read_page-other d l.root true (image_of l.descriptor + 4096) i) page
+      is_page (read_page-other d l.root true (image_address l.descriptor) i) page
+      || is_page (read_page-other d l.root true (image_address l.descriptor + 4096) i) page
 
   written_strays-other : (d : Device) (l : Loaded) (page : Option ℕ) → written_strays (other d) l page ≡ written_strays d l page
   written_strays-other d l None = refl

@@ -4,7 +4,7 @@ use Rattle.std.specs.Prelude.{OnOk}
 use Rattle.gv_ctx.specs.Saved.{fields_of, saved_of}
 use Rattle.gv_gpu.specs.Device.{Device, Loaded, with_loaded}
 use Rattle.gv_gpu.specs.Physical.{operand_stored}
-use Rattle.gv_gpu.specs.Context.{state_at, field_dwords, fields_stored, context_saved, context_of, loaded_after, submitted, stopped_with, stopped}
+use Rattle.gv_gpu.specs.Context.{state_at, field_dwords, fields_stored, context_saved, context_of, loaded_after, context_submitted, stopped_with, stopped}
 use Rattle.gv_devices.proofs.Faults.{other, operand_at-other, operand_stored-other}
 
 module _ (n : ℕ) where
@@ -37,8 +37,8 @@ module _ (n : ℕ) where
   loaded_after-other : (d : Device) (engine owner descriptor : ℕ) → loaded_after (other n d) engine owner descriptor ≡ other n (loaded_after d engine owner descriptor)
   loaded_after-other d engine owner descriptor = ap (λ l. with_loaded (other n d) engine (Some l)) (context_of-other d owner descriptor)
 
-  pub submitted-other : (d : Device) (engine owner descriptor : ℕ) → submitted (other n d) engine owner descriptor ≡ other n (submitted d engine owner descriptor)
-  unfolding submitted
+  pub submitted-other : (d : Device) (engine owner descriptor : ℕ) → context_submitted (other n d) engine owner descriptor ≡ other n (context_submitted d engine owner descriptor)
+  unfolding context_submitted
   submitted-other d engine owner descriptor =
       ap (λ e. loaded_after e engine owner descriptor) (context_saved-other d (d.loaded engine))
       ∙ loaded_after-other (context_saved d (d.loaded engine)) engine owner descriptor
@@ -53,8 +53,8 @@ module _ (n : ℕ) where
 
 -- A device in memory did it, and the count of faults is another one.
 module _ {A E : Type 0} (inner after d : Device) (n engine : ℕ) (same : other n inner ≡ d) where
-  pub submitted-over : (r : Result A E) (owner descriptor : ℕ) → OnOk r (after ≡ submitted inner engine owner descriptor) → OnOk r (other n after ≡ submitted d engine owner descriptor)
-  submitted-over (Ok a) owner descriptor done = ap (other n) done ∙ sym (submitted-other n inner engine owner descriptor) ∙ ap (λ e. submitted e engine owner descriptor) same
+  pub submitted-over : (r : Result A E) (owner descriptor : ℕ) → OnOk r (after ≡ context_submitted inner engine owner descriptor) → OnOk r (other n after ≡ context_submitted d engine owner descriptor)
+  submitted-over (Ok a) owner descriptor done = ap (other n) done ∙ sym (submitted-other n inner engine owner descriptor) ∙ ap (λ e. context_submitted e engine owner descriptor) same
   submitted-over (Err e) owner descriptor done = tt
 
   pub stopped-over : (r : Result A E) → OnOk r (after ≡ stopped inner engine) → OnOk r (other n after ≡ stopped d engine)

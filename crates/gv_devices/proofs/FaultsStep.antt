@@ -11,7 +11,7 @@ use Rattle.gv_cmd.specs.declared.kind.Kind.{Kind}
 use Rattle.gv_cmd.proofs.Simulation.{effects_agree}
 use Rattle.gv_gpu.specs.Device.{Device, Loaded, with_loaded}
 use Rattle.gv_gpu.specs.Physical.{byte_at, byte_stored, dword_at, write_strays}
-use Rattle.gv_gpu.specs.Step.{Stepping, Stepped, Fetched, bytes_stored, bytes_stray, row_moved, operations, stands_of, is_privileged, front_at, dwords_stray, dwords_from, fetched_from, fetched, settled, stepped_by, stepped_with, command_step, front_step, has_ended, step_with, physical_step}
+use Rattle.gv_gpu.specs.Step.{Stepping, Stepped, HeadRead, bytes_stored, bytes_stray, row_moved, operations, stands_at, runs_privileged, active_head, dwords_stray, dwords_from, head_read_from, head_read, settled, stepped_by, stepped_with, command_step, front_step, has_ended, step_with, physical_step}
 use Rattle.gv_gpu.specs.declared.step.Step.{Step}
 use Rattle.gv_gpu.specs.declared.step.Step.TheVariants.{Ended, Unlisted}
 use Rattle.gv_devices.proofs.Faults.{other, operand_at-other, operand_stored-other, byte_at-other, byte_stored-other, dword_at-other, read_strays-other, dword_strays-other, write_strays-other}
@@ -105,7 +105,7 @@ module _ (n : ℕ) where
   dwords_from-other d root global at zero = refl
   dwords_from-other d root global at (suc count) = λ i. dwords_from-other d root global at count i ++ dword_at-other n d root global (at + 4 * count) i ∷ []
 
-  fetched_from-other : (d : Device) (l : Loaded) (global : Bool) (at : ℕ) → fetched_from (other n d) l global at ≡ fetched_from d l global at
+  fetched_from-other : (d : Device) (l : Loaded) (global : Bool) (at : ℕ) → head_read_from (other n d) l global at ≡ head_read_from d l global at
   fetched_from-other d l global at =
       (λ i. record {
         words = dwords_from (other n d) l.root global at (read_length (length_of (dword_at-other n d l.root global at i)));
@@ -116,9 +116,9 @@ module _ (n : ℕ) where
         strayed = dwords_stray-other d l global at (read_length (length_of (dword_at d l.root global at))) i;
       })
 
-  fetched-other : (d : Device) (l : Loaded) → fetched (other n d) l ≡ fetched d l
-  unfolding fetched
-  fetched-other d l = fetched_from-other d l (is_privileged l.place) (front_at l)
+  fetched-other : (d : Device) (l : Loaded) → head_read (other n d) l ≡ head_read d l
+  unfolding head_read
+  fetched-other d l = fetched_from-other d l (runs_privileged l.place) (active_head l)
 
   -- ---- the step
 
@@ -140,19 +140,19 @@ module _ (n : ℕ) where
   command_step-turned s (Err e) = refl
   command_step-turned s (Ok (ws, dwords)) =
       by_test s ws dwords
-      (effect operations ws s.engine (is_privileged s.context.place) s)
-      (effect operations ws s.engine (is_privileged s.context.place) (turned s))
-      (is_allowed ws (stands_of s.context.place) s.engine)
-      (effect-turned ws s.engine (is_privileged s.context.place) s)
+      (effect operations ws s.engine (runs_privileged s.context.place) s)
+      (effect operations ws s.engine (runs_privileged s.context.place) (turned s))
+      (is_allowed ws (stands_at s.context.place) s.engine)
+      (effect-turned ws s.engine (runs_privileged s.context.place) s)
 
-  begun : Device → ℕ → Loaded → Fetched → Stepping
+  begun : Device → ℕ → Loaded → HeadRead → Stepping
   begun d engine l f = record { device = d; engine = engine; context = l; strayed = f.strayed }
 
   front_step-other : (d : Device) (engine : ℕ) (l : Loaded) → front_step (other n d) engine l ≡ turned_step (front_step d engine l)
   unfolding front_step begun
   front_step-other d engine l =
       ap (λ f. command_step (begun (other n d) engine l f) (decoded f.words)) (fetched-other d l)
-      ∙ command_step-turned (begun d engine l (fetched d l)) (decoded (fetched d l).words)
+      ∙ command_step-turned (begun d engine l (head_read d l)) (decoded (head_read d l).words)
 
   by_end : (d : Device) (engine : ℕ) (l : Loaded) (b : Bool)
       → cond b (record { after = with_loaded (other n d) engine None; answer = Ended }) (front_step (other n d) engine l)

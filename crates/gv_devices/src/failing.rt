@@ -1,6 +1,6 @@
 ghost use Rattle.std.specs.Prelude.{◌≡◌, ℕ, ◌+◌, ◌<◌, ◌≤◌, ◌↔◌, Contains, IsTrue, map, IfOk, OnOk, OnErr, IsOk, IsErr, IsSome, None, [], true, false};
-ghost use Rattle.gv_gpu.specs.Device.{IsEmpty, counted, added, released, poked, with_global, with_general, with_spare, with_faults};
-ghost use Rattle.gv_gpu.specs.Context.{submitted, stopped};
+ghost use Rattle.gv_gpu.specs.Device.{IsEmpty, counted, added, released, poked, with_global, with_engine_general, with_spare, with_faults};
+ghost use Rattle.gv_gpu.specs.Context.{context_submitted, stopped};
 ghost use Rattle.gv_gpu.specs.Step.{physical_step};
 ghost use Rattle.gv_engine.specs.Soft.{ran_of};
 ghost use Rattle.gv_devices.specs.Plan.{new_plan, FailsNext, after_call, FailsNextOther, after_other_call};
@@ -163,7 +163,7 @@ impl Gpu for FailingGpu {
     fn set_general(&mut self, engine: EngineId, n: u8, value: u64)
         requires engine { engine.0 < 4 }
         requires register { n < 16 }
-        ensures device { whole self.new ≡ with_general (whole self.old) engine.0 n value }
+        ensures device { whole self.new ≡ with_engine_general (whole self.old) engine.0 n value }
 
         ensures plan { plan_of self.new ≡ plan_of self.old }
     {
@@ -172,7 +172,7 @@ impl Gpu for FailingGpu {
 
     fn submit(&mut self, engine: EngineId, owner: GuestId, descriptor: u64) -> Result<(), GpuFailed>
         requires { engine.0 < 4 }
-        ensures ok { OnOk result (whole self.new ≡ submitted (whole self.old) engine.0 owner.0 descriptor) }
+        ensures ok { OnOk result (whole self.new ≡ context_submitted (whole self.old) engine.0 owner.0 descriptor) }
         ensures err { OnErr result (whole self.new ≡ with_faults (whole self.old) (counted (whole self.old).faults)) }
 
         ensures fails { IsErr result ↔ FailsNextOther (plan_of self.old) }

@@ -3,7 +3,7 @@ use Rattle.std.proofs.Common.{◌≡◌, ◌≢◌, ℕ, ◌+◌, ◌<◌, Bool,
 use Rattle.std.proofs.lemmas.Bool.{eqb-true}
 use Rattle.std.proofs.lemmas.Bool.Decides.{nat_tests}
 use Rattle.gv_ctx.specs.Saved.{fields_of}
-use Rattle.gv_gpu.specs.Context.{context_of, context_saved, stopped, stopped_with, submitted}
+use Rattle.gv_gpu.specs.Context.{context_of, context_saved, stopped, stopped_with, context_submitted}
 use Rattle.gv_gpu.specs.Device.{Device, Loaded, with_loaded}
 use Rattle.gv_place.specs.Place.{StandsFor}
 use Rattle.gv_place.proofs.Contexts.{stopped-stands}
@@ -88,7 +88,7 @@ module _ (d : Device) (guest engine root_page : ℕ) (x : Held) (works : Works d
   stopped-works = works-with e guest engine false root_page x l (left_of d guest engine true) works.window runs (λ no. cc) resting
 
 pub submitted-works : (d : Device) (guest engine root_page : ℕ) (x : Held) → Works d guest engine false root_page x → d.loaded engine ≡ None
-    → WorksWith (submitted d engine guest (descriptor_at guest engine)) guest engine true root_page x (left_of d guest engine false)
+    → WorksWith (context_submitted d engine guest (descriptor_at guest engine)) guest engine true root_page x (left_of d guest engine false)
 submitted-works d guest engine root_page x works none =
     let l = context_of d guest (descriptor_at guest engine) in
     let e = with_loaded d engine (Some l) in
@@ -123,8 +123,8 @@ stops-work d e engine x is ran root_page works =
     subst P (ap (stopped d) is ∙ sym ran) (stopped-works d x.window.guest x.window.engine root_page x works)
 
 pub resumes-work : (d e : Device) (guest engine descriptor : ℕ) (x : Held) → x.window.guest ≡ guest → x.window.engine ≡ engine → descriptor ≡ descriptor_at x.window.guest x.window.engine → d.loaded engine ≡ None
-    → e ≡ submitted d engine guest descriptor → ResumesWork d e x
+    → e ≡ context_submitted d engine guest descriptor → ResumesWork d e x
 resumes-work d e guest engine descriptor x guest_is engine_is named idle ran root_page works =
     let P : Device → Type 0 = λ y. WorksWith y x.window.guest x.window.engine true root_page x (left_of d x.window.guest x.window.engine false) in
-    let same = ap (submitted d engine guest) named ∙ ap (λ g. submitted d engine g (descriptor_at x.window.guest x.window.engine)) (sym guest_is) ∙ ap (λ n. submitted d n x.window.guest (descriptor_at x.window.guest x.window.engine)) (sym engine_is) in
+    let same = ap (context_submitted d engine guest) named ∙ ap (λ g. context_submitted d engine g (descriptor_at x.window.guest x.window.engine)) (sym guest_is) ∙ ap (λ n. context_submitted d n x.window.guest (descriptor_at x.window.guest x.window.engine)) (sym engine_is) in
     subst P (sym (ran ∙ same)) (submitted-works d x.window.guest x.window.engine root_page x works (ap d.loaded engine_is ∙ idle))

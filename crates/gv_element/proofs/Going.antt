@@ -1,6 +1,7 @@
 -- An element behind a step.
 use Rattle.std.proofs.Common.{◌≡◌, ℕ, suc, zero, ◌+◌, ◌*◌, ◌/◌, ◌%◌, ◌^◌, ◌<◌, ◌≤◌, Bool, true, false, cond, List, get_or, Option, None, Some, refl, ap, sym, subst, ◌∙◌, arith, lit<}
-use Rattle.gv_cmd.specs.Bits.{bit, dword_address}
+use Rattle.gv_types.specs.Bits.{has_bit}
+use Rattle.gv_cmd.specs.Bits.{dword_address}
 use Rattle.gv_cmd.specs.Table.{kind_of}
 use Rattle.gv_cmd.specs.declared.kind.Kind.{Kind}
 use Rattle.gv_cmd.specs.declared.kind.Kind.TheVariants.{BatchEnd, BatchStart}
@@ -10,10 +11,10 @@ use Rattle.gv_ctx.specs.declared.saved.Batch.{Batch}
 use Rattle.gv_ctx.specs.declared.saved.Saved.{Saved}
 use Rattle.gv_fetch.specs.Items.{Items, none, command, batch, depth}
 use Rattle.gv_fetch.specs.Laws.{most_commands}
-use Rattle.gv_fetch.specs.Left.{Level, Fetched, At, Left, IsLeft, started, behind, level_started, started_by, level_past, past as own_past, past_by as own_past_by, level_of, moved as own_moved, moved_by as own_moved_by, batch_left as own_batch_left}
+use Rattle.gv_fetch.specs.Left.{Level, Fetched, At, Left, IsLeft, started, behind, level_started, started_by, level_past, past, past_by, level_of, moved, moved_by, batch_left}
 use Rattle.gv_gpu.specs.Context.{context_of}
 use Rattle.gv_gpu.specs.Device.{Device, Loaded}
-use Rattle.gv_gpu.specs.Step.{moved, moved_by, past, past_by, batch_left_by}
+use Rattle.gv_gpu.specs.Step.{next_place, next_place_by, advanced, advanced_by, returned_by}
 use Rattle.gv_place.specs.Place.{StandsFor}
 use Rattle.gv_place.specs.Seen.{IsShort, LevelIsShort}
 use Rattle.gv_sctx.specs.Context.{FitsDwords}
@@ -67,7 +68,7 @@ level-started-short : (level : Level) → LevelIsShort (Some level) → depth (l
 level-started-short (Fetched items) h = let b = started-short items in omega arith
 level-started-short (At at) h = omega arith
 
-past-short : (w : Left) (n : ℕ) (first second : Option Level) → IsShort w → LevelIsShort first → LevelIsShort second → IsShort (own_past_by w n first second)
+past-short : (w : Left) (n : ℕ) (first second : Option Level) → IsShort w → LevelIsShort first → LevelIsShort second → IsShort (past_by w n first second)
 past-short w n first (Some level) short one two = record { ring = short.ring; first = short.first; second = level-past-short level n two }
 past-short w n (Some level) None short one two = record { ring = short.ring; first = level-past-short level n one; second = short.second }
 past-short w n None None short one two = record { ring = (let b = behind-short w.ring in let r = short.ring in omega arith); first = short.first; second = short.second }
@@ -81,19 +82,19 @@ level-of-short : (live : Bool) (at : ℕ) (items : Items) → depth items ≤ mo
 level-of-short true at items h = tt
 level-of-short false at items h = h
 
-left-short : (w : Left) (second : Option Level) → IsShort w → IsShort (own_batch_left w second)
+left-short : (w : Left) (second : Option Level) → IsShort w → IsShort (batch_left w second)
 left-short w (Some level) short = record { ring = short.ring; first = short.first; second = tt }
 left-short w None short = record { ring = short.ring; first = tt; second = short.second }
 
-kind-short : (w : Left) (items : Items) (kind : Option Kind) → IsShort w → depth items ≤ most_commands → IsShort (own_moved_by w items kind)
+kind-short : (w : Left) (items : Items) (kind : Option Kind) → IsShort w → depth items ≤ most_commands → IsShort (moved_by w items kind)
 kind-short w items (Some BatchEnd) short few = left-short w w.second short
 kind-short w items (Some (BatchStart live true at)) short few = record { ring = short.ring; first = short.first; second = level-of-short live at items few }
 kind-short w items (Some (BatchStart live false at)) short few = record { ring = short.ring; first = level-of-short live at items few; second = short.second }
 kind-short w items kind short few = short
 
-pub moves-short : (w : Left) (ws : List ℕ) (dwords : ℕ) → IsShort w → IsShort (own_moved w ws dwords)
+pub moves-short : (w : Left) (ws : List ℕ) (dwords : ℕ) → IsShort w → IsShort (moved w ws dwords)
 moves-short w ws dwords short =
-    kind-short (own_past w dwords) (started_by w.ring w.first w.second) (kind_of ws)
+    kind-short (past w dwords) (started_by w.ring w.first w.second) (kind_of ws)
     (past-short w dwords w.first w.second short short.first short.second)
     (started-by-short w.ring w.first w.second short.ring short.first short.second)
 
@@ -141,7 +142,7 @@ fits-fields place f (suc (suc (suc (suc (suc zero))))) = low-fits place.second
 fits-fields place f (suc (suc (suc (suc (suc (suc zero)))))) = state-fits place.second
 fits-fields place f (suc (suc (suc (suc (suc (suc (suc k))))))) = lit< tt
 
-past-fits : (place : Saved) (n : ℕ) (first second : Option Batch) → Fits place → Fits (past_by place n first second)
+past-fits : (place : Saved) (n : ℕ) (first second : Option Batch) → Fits place → Fits (advanced_by place n first second)
 past-fits place n first (Some b) f = record { ring = f.ring; first = f.first; second = omega arith }
 past-fits place n (Some b) None f = record { ring = f.ring; first = omega arith; second = f.second }
 past-fits place n None None f = record { ring = omega arith; first = f.first; second = f.second }
@@ -157,23 +158,23 @@ start-fits : (ws : List ℕ) (live second : Bool) (at : ℕ) → get_or ws 1 0 <
 unfolding kind_of
 start-fits ws live second at low is =
     let s = header_start live second at (get_or ws 0 0) ws is in
-    let e = same-at live second (bit (get_or ws 0 0) 8) (bit (get_or ws 0 0) 22) at (dword_address ws 1) (sym (kind_start (get_or ws 0 0) ws s) ∙ is) in
+    let e = same-at live second (has_bit (get_or ws 0 0) 8) (has_bit (get_or ws 0 0) 22) at (dword_address ws 1) (sym (kind_start (get_or ws 0 0) ws s) ∙ is) in
     let P : ℕ → Type 0 = λ n. n / 2 ^ 32 < 2 ^ 32 in
     subst P e (low-address (get_or ws 2 0) (get_or ws 1 0) low)
 
-left-fits : (place : Saved) (second : Option Batch) → Fits place → Fits (batch_left_by place second)
+left-fits : (place : Saved) (second : Option Batch) → Fits place → Fits (returned_by place second)
 left-fits place (Some b) f = record { ring = f.ring; first = f.first; second = tt }
 left-fits place None f = record { ring = f.ring; first = tt; second = f.second }
 
-kind-fits : (place : Saved) (ws : List ℕ) (kind : Option Kind) → kind_of ws ≡ kind → get_or ws 1 0 < 2 ^ 32 → Fits place → Fits (moved_by place kind)
+kind-fits : (place : Saved) (ws : List ℕ) (kind : Option Kind) → kind_of ws ≡ kind → get_or ws 1 0 < 2 ^ 32 → Fits place → Fits (next_place_by place kind)
 kind-fits place ws (Some BatchEnd) is low f = left-fits place place.second f
 kind-fits place ws (Some (BatchStart live true at)) is low f = record { ring = f.ring; first = f.first; second = start-fits ws live true at low is }
 kind-fits place ws (Some (BatchStart live false at)) is low f = record { ring = f.ring; first = start-fits ws live false at low is; second = f.second }
 kind-fits place ws kind is low f = f
 
-pub moves-small : (place : Saved) (ws : List ℕ) (dwords : ℕ) → get_or ws 1 0 < 2 ^ 32 → FitsDwords place → FitsDwords (moved place ws dwords)
+pub moves-small : (place : Saved) (ws : List ℕ) (dwords : ℕ) → get_or ws 1 0 < 2 ^ 32 → FitsDwords place → FitsDwords (next_place place ws dwords)
 moves-small place ws dwords low fits =
-    fits-fields (moved place ws dwords) (kind-fits (past place dwords) ws (kind_of ws) refl low (past-fits place dwords place.first place.second (fits-from place fits)))
+    fits-fields (next_place place ws dwords) (kind-fits (advanced place dwords) ws (kind_of ws) refl low (past-fits place dwords place.first place.second (fits-from place fits)))
 
 -- ---- a step that ended
 

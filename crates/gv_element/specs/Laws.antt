@@ -1,13 +1,13 @@
 -- What holds of an element at work: what leaves it as it is, and how it goes on.
 use Rattle.std.specs.Prelude.{◌≡◌, ◌≢◌, ℕ, ◌^◌, ◌<◌, Bool, true, false, List, [], slice_index, None, Some}
 use Rattle.gv_gpu.specs.Change.{Leaves}
-use Rattle.gv_gpu.specs.Context.{stopped, submitted}
+use Rattle.gv_gpu.specs.Context.{stopped, context_submitted}
 use Rattle.gv_gpu.specs.Device.{Device, Loaded, with_faults}
 use Rattle.gv_gpu.specs.Part.{Part, Within, outside, is_named, window_part, elements_part, standing_part, guest_part, shadow_label}
 use Rattle.gv_types.specs.declared.ranges.Ranges.{Ranges}
-use Rattle.gv_gpu.specs.Step.{moved}
+use Rattle.gv_gpu.specs.Step.{next_place}
 use Rattle.gv_ctx.specs.declared.saved.Saved.{Saved}
-use Rattle.gv_fetch.specs.Left.{Left, IsLeft, moved as own_moved}
+use Rattle.gv_fetch.specs.Left.{Left, IsLeft, moved}
 use Rattle.gv_place.specs.Place.{StandsFor, KeepsShadow}
 use Rattle.gv_place.specs.Seen.{IsShort}
 use Rattle.gv_types.specs.declared.ids.Label.{Label}
@@ -61,10 +61,10 @@ StepGoesOn = (d e : Device) (guest engine root_page : ℕ) (x : Held) (works : W
 -- What is left is no deeper after a command, and the place fits its fields, where the command's second dword
 -- is one of 32 bits.
 abbrev pub MovesStayShort : Type 0
-MovesStayShort = (w : Left) (ws : List ℕ) (dwords : ℕ) → IsShort w → IsShort (own_moved w ws dwords)
+MovesStayShort = (w : Left) (ws : List ℕ) (dwords : ℕ) → IsShort w → IsShort (moved w ws dwords)
 
 abbrev pub MovesStaySmall : Type 0
-MovesStaySmall = (place : Saved) (ws : List ℕ) (dwords : ℕ) → slice_index ws 1 < 2 ^ 32 → FitsDwords place → FitsDwords (moved place ws dwords)
+MovesStaySmall = (place : Saved) (ws : List ℕ) (dwords : ℕ) → slice_index ws 1 < 2 ^ 32 → FitsDwords place → FitsDwords (next_place place ws dwords)
 
 -- Where the engine has no context any more, the element can be taken away.
 abbrev pub EndedRests : Type 0
@@ -89,7 +89,7 @@ StoppedRests = (d : Device) (guest engine root_page : ℕ) (x : Held) → Works 
 
 abbrev pub SubmittedWorks : Type 0
 SubmittedWorks = (d : Device) (guest engine root_page : ℕ) (x : Held) → Works d guest engine false root_page x → d.loaded engine ≡ None
-    → WorksWith (submitted d engine guest (descriptor_at guest engine)) guest engine true root_page x (left_of d guest engine false)
+    → WorksWith (context_submitted d engine guest (descriptor_at guest engine)) guest engine true root_page x (left_of d guest engine false)
 
 -- ---- other parts of the same guest
 

@@ -1,6 +1,6 @@
 ghost use Rattle.std.specs.Prelude.{◌≡◌, ◌≤◌, ◌<◌, ◌+◌, ◌-◌, ℕ, [], IfOk, OnOk, OnErr, IsErrOf, None, true, length};
 ghost use Rattle.gv_element.specs.Works.{Begins, IsWindow, ResumesWork, Rests, StopsWork, element_part, image_filled, started};
-ghost use Rattle.gv_gpu.specs.Context.{stopped, submitted};
+ghost use Rattle.gv_gpu.specs.Context.{stopped, context_submitted};
 ghost use Rattle.gv_gpu.specs.Device.{counted, with_faults, with_spare};
 ghost use Rattle.gv_gpu.specs.Part.{outside, window_part};
 ghost use Rattle.gv_scan.specs.Layout.{FitsWindow};
@@ -189,7 +189,7 @@ impl Element {
         requires engine { self.now.window.engine ≡ engine.0 }
         requires idle { (G.state gpu.old).loaded engine.0 ≡ None }
         ensures works { OnOk result (ResumesWork (G.state gpu.old) (G.state gpu.new) self.now) }
-        ensures ok { OnOk result (G.state gpu.new ≡ submitted (G.state gpu.old) engine.0 guest.0 (descriptor_at guest.0 engine.0)) }
+        ensures ok { OnOk result (G.state gpu.new ≡ context_submitted (G.state gpu.old) engine.0 guest.0 (descriptor_at guest.0 engine.0)) }
         ensures err { OnErr result (G.state gpu.new ≡ with_faults (G.state gpu.old) (G.state gpu.new).faults) }
         ensures cause { OnErr result (counted (G.state gpu.old).faults ≤ (G.state gpu.new).faults) }
     {

@@ -2,7 +2,7 @@
 use Rattle.std.proofs.Common.{◌≡◌, ℕ, ◌+◌, List, get_or, None, Some, true, refl, ap, sym, ◌∙◌, add-one}
 use Rattle.gv_gpu.specs.Device.{Device, Loaded, with_loaded}
 use Rattle.gv_gpu.specs.Physical.{operand_stored}
-use Rattle.gv_gpu.specs.Context.{state_at, field_dwords, fields_stored, context_saved, context_of, stopped, submitted}
+use Rattle.gv_gpu.specs.Context.{state_at, field_dwords, fields_stored, context_saved, context_of, stopped, context_submitted}
 use Rattle.gv_ctx.specs.Saved.{fields_of}
 
 -- one more field
@@ -14,8 +14,8 @@ pub fields_stored-none : (d : Device) (descriptor : ℕ) (fields : List ℕ) →
 unfolding fields_stored
 fields_stored-none d descriptor fields = refl
 
-pub submitted-by : (old saved new : Device) (engine owner descriptor : ℕ) (l : Loaded) → saved ≡ context_saved old (old.loaded engine) → l ≡ context_of saved owner descriptor → new ≡ with_loaded saved engine (Some l) → new ≡ submitted old engine owner descriptor
-unfolding submitted
+pub submitted-by : (old saved new : Device) (engine owner descriptor : ℕ) (l : Loaded) → saved ≡ context_saved old (old.loaded engine) → l ≡ context_of saved owner descriptor → new ≡ with_loaded saved engine (Some l) → new ≡ context_submitted old engine owner descriptor
+unfolding context_submitted
 submitted-by old saved new engine owner descriptor l save is load =
     load
     ∙ ap (λ k. with_loaded saved engine (Some k)) is

@@ -6,7 +6,7 @@ use Rattle.gv_cmd.specs.Command.{decoded}
 use Rattle.gv_cmd.specs.declared.command.Unlisted.{Unlisted}
 use Rattle.gv_gpu.specs.Device.{Device, Loaded}
 use Rattle.gv_gpu.specs.Physical.{dword_at, dword_strays}
-use Rattle.gv_gpu.specs.Step.{dwords_from, dwords_stray, fetched, command_step, front_step}
+use Rattle.gv_gpu.specs.Step.{dwords_from, dwords_stray, head_read, command_step, front_step}
 
 pub dwords_from-none : (d : Device) (root : ℕ) (global : Bool) (at : ℕ) → dwords_from d root global at 0 ≡ []
 unfolding dwords_from
@@ -40,9 +40,9 @@ stray-step d l global at n strayed stray both so_far is joined =
 
 -- what is fetched and decoded makes the step
 pub front_step-is : (d : Device) (engine : ℕ) (l : Loaded) (ws : List ℕ) (strayed : Bool) (r : Result (List ℕ × ℕ) Unlisted)
-    → ws ≡ (fetched d l).words → strayed ≡ (fetched d l).strayed → r ≡ decoded ws
+    → ws ≡ (head_read d l).words → strayed ≡ (head_read d l).strayed → r ≡ decoded ws
     → command_step (record { device = d; engine = engine; context = l; strayed = strayed }) r ≡ front_step d engine l
 unfolding front_step
 front_step-is d engine l ws strayed r words strays is =
     ap (command_step (record { device = d; engine = engine; context = l; strayed = strayed })) (is ∙ ap decoded words)
-    ∙ ap (λ b. command_step (record { device = d; engine = engine; context = l; strayed = b }) (decoded (fetched d l).words)) strays
+    ∙ ap (λ b. command_step (record { device = d; engine = engine; context = l; strayed = b }) (decoded (head_read d l).words)) strays

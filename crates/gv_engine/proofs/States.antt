@@ -7,7 +7,7 @@ use Rattle.gv_types.specs.Maps.{put}
 use Rattle.gv_types.specs.Memory.{zero_words}
 use Rattle.gv_types.specs.declared.ids.Label.{Label}
 use Rattle.gv_types.specs.declared.memory.OutOfMemory.{OutOfMemory}
-use Rattle.gv_gpu.specs.Device.{added, empty_device, with_general, with_global}
+use Rattle.gv_gpu.specs.Device.{added, empty_device, with_engine_general, with_global}
 use Rattle.gv_engine.specs.Pages.{Held, nothing_held}
 use Rattle.gv_engine.specs.Soft.{state_of, register_of, zero_registers, loaded_by}
 use Rattle.gv_engine.specs.declared.context.Context.{Context}
@@ -30,7 +30,7 @@ module _ (general : List ℕ) (engine n value : ℕ) (there : n < 16) (here : 16
   register_set : (e k : ℕ) → register_of (set general (16 * engine + n) value) e k ≡ put (register_of general) engine (put (register_of general engine) n value) e k
   register_set e k = grind (arith, common_steps)
 
-  pub state-general : (pages : Held) (entries : List ℕ) (contexts : List (Option Context)) (journal : List Entry) (strays pokes spare : ℕ) → state_of pages entries (set general (16 * engine + n) value) contexts journal strays pokes spare ≡ with_general (state_of pages entries general contexts journal strays pokes spare) engine n value
+  pub state-general : (pages : Held) (entries : List ℕ) (contexts : List (Option Context)) (journal : List Entry) (strays pokes spare : ℕ) → state_of pages entries (set general (16 * engine + n) value) contexts journal strays pokes spare ≡ with_engine_general (state_of pages entries general contexts journal strays pokes spare) engine n value
   state-general pages entries contexts journal strays pokes spare = λ i. record (state_of pages entries general contexts journal strays pokes spare) { general = λ e k. register_set e k i }
 
 -- registers of zeros

@@ -2,12 +2,12 @@
 -- and the entry at last.
 use Rattle.std.specs.Prelude.{ℕ, ◌/◌, ◌%◌, ◌==◌, ◌||◌, Bool, true, false, Option, None, Some, if◌then◌else◌}
 use Rattle.gv_gpu.specs.Device.{Device}
-use Rattle.gv_gpu.specs.Physical.{live_page, third_table, second_table, first_table, leaf, entry_at, page_of, page_strays, is_page}
+use Rattle.gv_gpu.specs.Physical.{live_page, third_table, second_table, first_table, leaf, physical_entry, page_of, page_strays, is_page}
 use Rattle.gv_engine.specs.declared.walk.Walk.{Walk}
 
 -- a global address has no tables
 abbrev pub walk_of : Device → ℕ → Bool → ℕ → Walk
-walk_of d root true at = record { root = None; third = None; second = None; first = None; entry = entry_at d root true at }
+walk_of d root true at = record { root = None; third = None; second = None; first = None; entry = physical_entry d root true at }
 walk_of d root false at = record { root = live_page d root; third = third_table d root at; second = second_table d root at; first = first_table d root at; entry = leaf d root at }
 
 -- the page that is written through an entry

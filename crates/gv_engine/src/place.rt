@@ -1,5 +1,5 @@
 ghost use Rattle.std.specs.Prelude.{◌≡◌, ◌+◌, ◌<◌, ◌≤◌, ◌^◌};
-ghost use Rattle.gv_gpu.specs.Step.{stands_of, is_privileged, address_of, front_at, batch_past, past, batch_left, entered, moved, has_ended};
+ghost use Rattle.gv_gpu.specs.Step.{stands_at, runs_privileged, batch_address, active_head, batch_advanced, advanced, returned, branched, next_place, has_ended};
 ghost use Rattle.gv_engine.specs.Soft.{loaded_of};
 
 use crate::context::Context;
@@ -8,7 +8,7 @@ use gv_ctx::{Batch, Saved};
 
 /// Where the next command stands: in the innermost batch, or else in the ring.
 pub(crate) fn stands_of(place: &Saved) -> Stands
-    ensures { result ≡ stands_of place.now }
+    ensures { result ≡ stands_at place.now }
 {
     match (place.first, place.second) {
         (_, Some(_)) => Stands::Second,
@@ -20,7 +20,7 @@ pub(crate) fn stands_of(place: &Saved) -> Stands
 
 /// Whether it is privileged, and read in the global memory: all but a live batch is.
 pub(crate) fn is_privileged(place: &Saved) -> bool
-    ensures { result ≡ is_privileged place.now }
+    ensures { result ≡ runs_privileged place.now }
 {
     match (place.first, place.second) {
         (_, Some(second)) => !second.live,
@@ -30,7 +30,7 @@ pub(crate) fn is_privileged(place: &Saved) -> bool
 }
 
 fn address_of(batch: Batch) -> u64
-    ensures value { result ≡ address_of batch }
+    ensures value { result ≡ batch_address batch }
     ensures small { result < 2 ^ 48 }
 {
     if batch.live {
@@ -43,7 +43,7 @@ fn address_of(batch: Batch) -> u64
 /// Past so many dwords. Addresses count modulo 2^48.
 fn batch_past(batch: Batch, dwords: usize) -> Batch
     requires { dwords ≤ 65 }
-    ensures { result ≡ batch_past batch dwords }
+    ensures { result ≡ batch_advanced batch dwords }
 {
     Batch {
         at: batch.at.wrapping_add(4 * dwords as u64) & 0xffff_ffff_ffff,
@@ -53,7 +53,7 @@ fn batch_past(batch: Batch, dwords: usize) -> Batch
 
 fn past(place: Saved, dwords: usize) -> Saved
     requires { dwords ≤ 65 }
-    ensures { result ≡ past place dwords }
+    ensures { result ≡ advanced place dwords }
 {
     match (place.first, place.second) {
         (first, Some(second)) => Saved {
@@ -76,7 +76,7 @@ fn past(place: Saved, dwords: usize) -> Saved
 
 /// The innermost batch is left.
 fn batch_left(place: Saved) -> Saved
-    ensures { result ≡ batch_left place }
+    ensures { result ≡ returned place }
 {
     match place.second {
         Some(_) => Saved {
@@ -93,7 +93,7 @@ fn batch_left(place: Saved) -> Saved
 }
 
 fn entered(place: Saved, second: bool, batch: Batch) -> Saved
-    ensures { result ≡ entered place second batch }
+    ensures { result ≡ branched place second batch }
 {
     if second {
         Saved {
@@ -113,7 +113,7 @@ fn entered(place: Saved, second: bool, batch: Batch) -> Saved
 /// The place after a command of so many dwords ran.
 pub(crate) fn moved(place: Saved, command: &Command, dwords: usize) -> Saved
     requires { dwords ≤ 65 }
-    ensures { result ≡ moved place command.now dwords }
+    ensures { result ≡ next_place place command.now dwords }
 {
     let place = past(place, dwords);
     match command.kind() {
@@ -125,7 +125,7 @@ pub(crate) fn moved(place: Saved, command: &Command, dwords: usize) -> Saved
 
 /// The address of the next command.
 pub(crate) fn front_at(context: &Context) -> u64
-    ensures value { result ≡ front_at (loaded_of context.now) }
+    ensures value { result ≡ active_head (loaded_of context.now) }
     ensures small { result < 2 ^ 48 }
 {
     match (context.place.first, context.place.second) {

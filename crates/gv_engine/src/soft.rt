@@ -1,5 +1,5 @@
 ghost use Rattle.std.specs.Prelude.{◌≡◌, ℕ, ◌+◌, ◌-◌, ◌*◌, ◌<◌, ◌≤◌, ◌++◌, ◌∷◌, length, slice_index, vec_capacity, IfOk, OnOk, OnErr, IsSome, None, [], is_some, map, if◌then◌else◌};
-ghost use Rattle.gv_gpu.specs.Device.{IsEmpty, added, counted, with_word, with_loaded};
+ghost use Rattle.gv_gpu.specs.Device.{IsEmpty, added, counted, with_page_word, with_loaded};
 ghost use Rattle.gv_engine.specs.Held.{held};
 ghost use Rattle.gv_engine.specs.Soft.{zero_registers};
 
@@ -119,7 +119,7 @@ impl SoftGpu {
     pub(crate) fn set_word(&mut self, page: u64, index: usize, value: u64)
         requires live { IsSome ((whole self.old).label page) }
         requires within { index < 512 }
-        ensures { whole self.new ≡ with_word (whole self.old) page index value }
+        ensures { whole self.new ≡ with_page_word (whole self.old) page index value }
     {
         self.pages.set_word(page, index, value);
     }

@@ -1,7 +1,7 @@
 ghost use Rattle.std.specs.Prelude.{◌≡◌, ◌+◌, ◌*◌, ◌<◌, ◌≤◌, ◌^◌, take, Ok};
 ghost use Rattle.gv_cmd.specs.Effect.{effect};
 ghost use Rattle.gv_exec.specs.Done.{raise_of};
-ghost use Rattle.gv_gpu.specs.Step.{operations, is_privileged, dwords_from, dwords_stray, fetched, ran_after, command_step, front_step};
+ghost use Rattle.gv_gpu.specs.Step.{operations, runs_privileged, dwords_from, dwords_stray, head_read, retired, command_step, front_step};
 ghost use Rattle.gv_engine.specs.Running.{stepping};
 ghost use Rattle.gv_engine.specs.Soft.{loaded_of};
 ghost use Rattle.gv_engine.specs.Whole.{whole};
@@ -53,8 +53,8 @@ impl SoftGpu {
     #[tactic(auto, unfolding(gv_gpu::specs::Step::fetched))]
     fn fetch(&self, context: &Context) -> Fetched
         ensures few { result.count ≤ 65 }
-        ensures words { take result.count result.words ≡ (fetched (whole self.now) (loaded_of context.now)).words }
-        ensures strayed { result.strayed ≡ (fetched (whole self.now) (loaded_of context.now)).strayed }
+        ensures words { take result.count result.words ≡ (head_read (whole self.now) (loaded_of context.now)).words }
+        ensures strayed { result.strayed ≡ (head_read (whole self.now) (loaded_of context.now)).strayed }
     {
         let global = is_privileged(&context.place);
         let at = front_at(context);
@@ -117,7 +117,7 @@ impl SoftGpu {
         requires engine { engine.0 < 4 }
         requires room { 1 ≤ (whole self.old).spare }
         requires few { dwords ≤ 65 }
-        ensures { whole self.new ≡ ran_after (whole self.old) engine.0 (loaded_of context.now) command.now dwords }
+        ensures { whole self.new ≡ retired (whole self.old) engine.0 (loaded_of context.now) command.now dwords }
     {
         let next = Context {
             descriptor: context.descriptor,

@@ -1,6 +1,6 @@
 //! Which accesses of a step stray. No access is made here.
 ghost use Rattle.std.specs.Prelude.{◌≡◌, ◌||◌, ◌<◌, ◌^◌, IfSome, IsSome};
-ghost use Rattle.gv_gpu.specs.Physical.{image_of, page_strays, is_own_image, read_page, write_page, read_strays, written_strays, write_strays};
+ghost use Rattle.gv_gpu.specs.Physical.{image_address, page_strays, is_own_image, read_page, write_page, read_strays, written_strays, write_strays};
 ghost use Rattle.gv_engine.specs.Soft.{loaded_of};
 ghost use Rattle.gv_engine.specs.Walk.{walk_of, writable_page, tables_stray};
 ghost use Rattle.gv_engine.specs.Whole.{whole};
@@ -27,7 +27,7 @@ pub(crate) struct Reached {
 
 /// Where a context's image begins, as a global address.
 fn image_of(descriptor: u64) -> u64
-    ensures value { result ≡ image_of descriptor }
+    ensures value { result ≡ image_address descriptor }
     ensures small { result < 2 ^ 32 }
 {
     u64::from(Descriptor::of(descriptor).page) * PAGE_BYTES

@@ -9,10 +9,11 @@ use Rattle.std.proofs.lemmas.Map.Views.{any-filter_same}
 use Rattle.gv_types.specs.Memory.{Memory, word_of, with_half, with_value}
 use Rattle.gv_types.specs.declared.event.Width.{Width}
 use Rattle.gv_types.specs.declared.event.Width.TheVariants.{Four, Eight}
-use Rattle.gv_entry.specs.Entry.{is_bad, is_large, process_entry, process_frame_of, base_frame_of, is_set}
+use Rattle.gv_types.specs.Bits.{has_bit}
+use Rattle.gv_entry.specs.Entry.{is_bad, is_large, process_entry, process_frame_of, base_frame_of}
 use Rattle.gv_entry.specs.declared.process.Process.{Process}
 use Rattle.gv_entry.specs.declared.process.Process.TheVariants.{Absent, Table, Large, Page, Bad}
-use Rattle.gv_entry.specs.Tables.{Mapped, words_of, entry_of, index_at, mapped_page, through, through_or_large, walk, any_entry, names, names_large, SplitKey, keys_of, split_keys, is_bad_entry, tables_named, live_below, live, levels, has_bad_entry, is_guarded}
+use Rattle.gv_entry.specs.Tables.{Mapped, frame_words, level_entry, index_at, mapped_page, through, through_or_large, walk, any_entry, names, names_large, SplitKey, keys_of, split_keys, is_bad_entry, tables_named, live_below, live, levels, has_bad_entry, is_guarded}
 use Rattle.gv_entry.specs.Grants.{frame_of, if_writable, read_grant, write_grant, maps, is_mapped}
 use Rattle.gv_entry.specs.SameTables.{has, SameTables, TablesDecide, SameTablesChain, UnguardedFrameKeepsTables, UnguardedWordKeepsTables, UnguardedWriteKeepsTables}
 
@@ -66,19 +67,19 @@ good_frame false b c h = cc
 -- a table that an entry names is in memory
 pub table_below : (entry level frames h : ℕ) → process_entry entry level frames ≡ Table h → h < frames
 table_below entry level frames h is =
-    let both = table_in (not (is_set entry 0)) (is_large entry level) (ltb (base_frame_of entry + 511) frames) (is_bad entry level frames) (eqb level 1) (base_frame_of entry) (process_frame_of entry) (process_frame_of entry) h (is_set entry 1) is in
+    let both = table_in (not (has_bit entry 0)) (is_large entry level) (ltb (base_frame_of entry + 511) frames) (is_bad entry level frames) (eqb level 1) (base_frame_of entry) (process_frame_of entry) (process_frame_of entry) h (has_bit entry 1) is in
     subst (λ k. k < frames) both.1 (ltb-true (process_frame_of entry) frames (good_frame _ _ _ both.0))
 
 names_it : (frame : ℕ) (e : Process) → e ≡ Table frame → names frame e ≡ true
 names_it frame e is = ap (names frame) is ∙ eq-eqb frame frame refl
 
 -- what a live table names is live a level below
-pub named-live : (m : Memory) (level : ℕ) (tables : List ℕ) (table index h : ℕ) → has tables table ≡ true → entry_of m level table index ≡ Table h → has (tables_named m level tables) h ≡ true
+pub named-live : (m : Memory) (level : ℕ) (tables : List ℕ) (table index h : ℕ) → has tables table ≡ true → level_entry m level table index ≡ Table h → has (tables_named m level tables) h ≡ true
 named-live m level tables table index h among is =
     has_filter (λ frame. list_any (any_entry m level (names frame)) tables) (range_with_len 0 (length m)) h
     (any_has (any_entry m level (names h)) tables table among
-    (any_at (λ word. names h (process_entry word level (length m))) (words_of m table) index refl (names_it h (entry_of m level table index) is)))
-    (let below = table_below (get_or (words_of m table) index 0) level (length m) h is in has_range 0 (length m) h (omega arith) (omega arith))
+    (any_at (λ word. names h (process_entry word level (length m))) (frame_words m table) index refl (names_it h (level_entry m level table index) is)))
+    (let below = table_below (get_or (frame_words m table) index 0) level (length m) h is in has_range 0 (length m) h (omega arith) (omega arith))
 
 first : (a b c d : Bool) → a ≡ true → (a || (b || (c || (d || false)))) ≡ true
 first true b c d h = refl
@@ -118,7 +119,7 @@ through_or_large_same Bad index f g same = refl
 -- ---- two memories
 
 module _ (m n : Memory) (roots : List ℕ) (same : SameTables m n roots) where
-  pub entry-same : (level table index : ℕ) → is_guarded m roots table ≡ true → entry_of n level table index ≡ entry_of m level table index
+  pub entry-same : (level table index : ℕ) → is_guarded m roots table ≡ true → level_entry n level table index ≡ level_entry m level table index
   entry-same level table index guarded = λ i. process_entry (get_or (same.words table guarded i) index 0) level (same.frames i)
 
   any_entry_same : (level table : ℕ) (test : Process → Bool) → is_guarded m roots table ≡ true → any_entry n level test table ≡ any_entry m level test table
@@ -156,18 +157,18 @@ module _ (m n : Memory) (roots : List ℕ) (same : SameTables m n roots) where
   -- through a table at so many levels below a root
   through_live : (depth table index : ℕ) (f g : ℕ → Option Mapped) → depth < 4 → has (live_below m roots depth) table ≡ true
       → ((h : ℕ) → has (live_below m roots (suc depth)) h ≡ true → f h ≡ g h)
-      → through (entry_of n (4 - depth) table index) f ≡ through (entry_of m (4 - depth) table index) g
+      → through (level_entry n (4 - depth) table index) f ≡ through (level_entry m (4 - depth) table index) g
   through_live depth table index f g few live next =
       ap (λ e. through e f) (entry-same (4 - depth) table index (live-guarded m roots depth table few live))
-      ∙ through_same (entry_of m (4 - depth) table index) f g (λ h is. next h (named-live m (4 - depth) (live_below m roots depth) table index h live is))
+      ∙ through_same (level_entry m (4 - depth) table index) f g (λ h is. next h (named-live m (4 - depth) (live_below m roots depth) table index h live is))
 
   -- the same at level 2
   through_second : (table index page : ℕ) (f g : ℕ → Option Mapped) → has (live_below m roots 2) table ≡ true
       → ((h : ℕ) → has (live_below m roots 3) h ≡ true → f h ≡ g h)
-      → through_or_large (entry_of n 2 table index) page f ≡ through_or_large (entry_of m 2 table index) page g
+      → through_or_large (level_entry n 2 table index) page f ≡ through_or_large (level_entry m 2 table index) page g
   through_second table index page f g live next =
       ap (λ e. through_or_large e page f) (entry-same 2 table index (live-guarded m roots 2 table (omega arith) live))
-      ∙ through_or_large_same (entry_of m 2 table index) page f g (λ h is. next h (named-live m 2 (live_below m roots 2) table index h live is))
+      ∙ through_or_large_same (level_entry m 2 table index) page f g (λ h is. next h (named-live m 2 (live_below m roots 2) table index h live is))
 
   pub split-same : split_keys n roots ≡ split_keys m roots
   split-same =

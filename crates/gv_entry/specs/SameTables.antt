@@ -4,7 +4,7 @@ use Rattle.std.specs.Prelude.{◌≡◌, ℕ, ◌/◌, List, Bool, true, false, 
 use Rattle.std.specs.List.{list_any}
 use Rattle.gv_types.specs.Memory.{Memory, with_word, memory_write}
 use Rattle.gv_types.specs.declared.event.Width.{Width}
-use Rattle.gv_entry.specs.Tables.{words_of, walk, live, split_keys, is_guarded, has_bad_entry}
+use Rattle.gv_entry.specs.Tables.{frame_words, walk, live, split_keys, is_guarded, has_bad_entry}
 use Rattle.gv_entry.specs.Grants.{read_grant, write_grant, is_mapped}
 
 -- whether a frame is among these
@@ -14,7 +14,7 @@ has frames frame = list_any (λ table. table == frame) frames
 -- As many frames, and each frame that is guarded in m has the same words.
 pub record SameTables (m n : Memory) (roots : List ℕ) : Type 0 where
   pub frames : length n ≡ length m
-  pub words : (frame : ℕ) → is_guarded m roots frame ≡ true → words_of n frame ≡ words_of m frame
+  pub words : (frame : ℕ) → is_guarded m roots frame ≡ true → frame_words n frame ≡ frame_words m frame
 
 -- What follows: the live tables of each level, split keys, guarded and mapped frames, bad entries, and what
 -- each root maps and grants.

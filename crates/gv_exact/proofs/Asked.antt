@@ -4,7 +4,7 @@ use Rattle.std.specs.List.{flat_map}
 use Rattle.std.proofs.lemmas.List.{append_assoc, append-nil}
 use Rattle.std.proofs.lemmas.Grind.{flat_map-append}
 use Rattle.gv_cmd.specs.Bits.{register}
-use Rattle.gv_cmd.specs.Effect.{Operations, general_of, is_skipped, ran, set_by, loaded_by, register_set, registers_set, register_read, dwords_stored, post_written, rows_copied, rows_filled, compares, waited, performed, effect_of, effect}
+use Rattle.gv_cmd.specs.Effect.{Operations, general_of, is_skipped, ran, general_set_by, general_loaded_by, engine_register_set, engine_registers_set, engine_register_read, dwords_stored, post_written, rows_copied, rows_filled, compares, waited, performed, effect_of, effect}
 use Rattle.gv_cmd.specs.Rows.{rows}
 use Rattle.gv_cmd.specs.Table.{kind_of}
 use Rattle.gv_cmd.specs.declared.blit.Blit.{Blit}
@@ -110,18 +110,18 @@ module _ {S : Type 0} (ops : Operations S) (reach : Reach S) (Fine : S → Type 
         ∙ sym (flat_map-append (given_one R W) (bytes_asked false (from % 2 ^ 48) n) (bytes_asked true (to % 2 ^ 48) n)));
   }
 
-  sets : (r : Recorded S) (n : Option ℕ) (value : ℕ) → Fine r.now → Does r (set_by rec r n value) []
+  sets : (r : Recorded S) (n : Option ℕ) (value : ℕ) → Fine r.now → Does r (general_set_by rec r n value) []
   sets r None value fine = nothing r fine
   sets r (Some n) value fine = record { fine = steady.set r.now n value fine; trace = sym (append-nil r.trace) }
 
-  registers : (engine : ℕ) (r : Recorded S) (ws : List ℕ) → Fine r.now → Does r (registers_set rec engine r ws) []
+  registers : (engine : ℕ) (r : Recorded S) (ws : List ℕ) → Fine r.now → Does r (engine_registers_set rec engine r ws) []
   registers engine r [] fine = nothing r fine
   registers engine r (w ∷ []) fine = nothing r fine
   registers engine r (w ∷ value ∷ ws) fine =
       let first = sets r (general_of engine (register (w ∷ []) 0)) value fine in
-      and_then r (register_set rec engine r (register (w ∷ []) 0) value) _ [] [] first (registers engine (register_set rec engine r (register (w ∷ []) 0) value) ws first.fine)
+      and_then r (engine_register_set rec engine r (register (w ∷ []) 0) value) _ [] [] first (registers engine (engine_register_set rec engine r (register (w ∷ []) 0) value) ws first.fine)
 
-  loads_by : (r : Recorded S) (n : Option ℕ) (global : Bool) (at : ℕ) → Fine r.now → Does r (loaded_by rec r n global at) (load_asked n global at)
+  loads_by : (r : Recorded S) (n : Option ℕ) (global : Bool) (at : ℕ) → Fine r.now → Does r (general_loaded_by rec r n global at) (load_asked n global at)
   loads_by r None global at fine = nothing r fine
   loads_by r (Some n) global at fine =
       let first = loads r global at fine in
@@ -163,9 +163,9 @@ module _ {S : Type 0} (ops : Operations S) (reach : Reach S) (Fine : S → Type 
     done (SemaphoreWait global compare operand at) = waits (compares compare (ops.load_gives r.now global at) operand) (rec.load_leaves r global at) (read_dword global at ∷ []) (loads r global at fine)
     done (Store global at low high) = dwords r global at low high fine
     done (LoadRegisters pairs) = registers engine r (drop 1 ws) fine
-    done (StoreRegister global register at) = stores r global at (register_read rec engine r register) fine
+    done (StoreRegister global register at) = stores r global at (engine_register_read rec engine r register) fine
     done (LoadRegister global register at) = loads_by r (general_of engine register) global at fine
-    done (MoveRegister from to) = sets r (general_of engine to) (register_read rec engine r from) fine
+    done (MoveRegister from to) = sets r (general_of engine to) (engine_register_read rec engine r from) fine
     done (CopyMemory from_global from to_global to) =
         let first = loads r from_global from fine in
         and_then r (rec.load_leaves r from_global from) _ (read_dword from_global from ∷ []) (write_dword to_global to ∷ []) first

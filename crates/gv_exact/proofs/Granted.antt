@@ -5,7 +5,7 @@ use Rattle.gv_types.specs.Bits.{with_byte}
 use Rattle.gv_types.specs.declared.event.Width.{Width}
 use Rattle.gv_types.specs.declared.event.Width.TheVariants.{Four, Eight}
 use Rattle.gv_cmd.specs.Effect.{colour_byte}
-use Rattle.gv_entry.specs.Global.{entry_of}
+use Rattle.gv_entry.specs.Global.{global_entry}
 use Rattle.gv_entry.specs.Grants.{global_grant, read_grant, write_grant}
 use Rattle.gv_entry.specs.SameTables.{SameTables, SameMeaning, has}
 use Rattle.gv_entry.specs.Tables.{is_guarded}
@@ -38,7 +38,7 @@ module _ (p : PrivateSpace) where
   guarded x like = (λ i. is_guarded x.memory (like.roots i)) ∙ (meaning x like).guarded
 
   pages : (x : PrivateSpace) → Like x → (page : ℕ) → page_grant_in x.ranges x.entries x.memory x.roots page ≡ page_grant_in p.ranges p.entries p.memory p.roots page
-  pages x like page = λ i. global_grant (like.ranges i) (like.tables.frames i) (guarded x like i) (entry_of (like.ranges i) (like.entries i)) page
+  pages x like page = λ i. global_grant (like.ranges i) (like.tables.frames i) (guarded x like i) (global_entry (like.ranges i) (like.entries i)) page
 
   pub same_reads : (x : PrivateSpace) → Like x → has p.roots p.root ≡ true → (global : Bool) (at : ℕ) → reads x global at ≡ reads p global at
   same_reads x like member true at = pages x like (at / 4096)

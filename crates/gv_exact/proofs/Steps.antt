@@ -11,11 +11,11 @@ use Rattle.gv_cmd.specs.Table.{kind_of, length_of, read_length}
 use Rattle.gv_cmd.specs.declared.command.Unlisted.{Unlisted as UnlistedError}
 use Rattle.gv_cmd.specs.declared.stands.Stands.TheVariants.{Privileged, Second}
 use Rattle.gv_fetch.specs.Items.{Items}
-use Rattle.gv_fetch.specs.Left.{Level, Fetched, At, LevelMayStand, words_of, started, live_command, is_done, privileged_by, is_privileged as own_is_privileged, stands_of as own_stands_of}
+use Rattle.gv_fetch.specs.Left.{Level, Fetched, At, LevelMayStand, words_of, started, live_command, is_done, privileged_by, is_privileged, stands_of}
 use Rattle.gv_fetch.proofs.Readdressed.{effect-same}
 use Rattle.gv_gpu.specs.Device.{Device, Loaded}
 use Rattle.gv_gpu.specs.Physical.{read_page, dword_at}
-use Rattle.gv_gpu.specs.Step.{Stepping, is_privileged, stands_of, front_by, address_of, fetched, has_ended}
+use Rattle.gv_gpu.specs.Step.{Stepping, runs_privileged, stands_at, active_head_by, batch_address, head_read, has_ended}
 use Rattle.gv_guest.specs.Placed.{Placed}
 use Rattle.gv_place.specs.Place.{LevelAt, ReadsSame}
 use Rattle.gv_place.specs.Steps.{Runs}
@@ -68,7 +68,7 @@ record LiveAt (private_at : Option ℕ) (device_at : ℕ) : Type 0 where
 in_batch : Batch → Bool → ℕ
 in_batch b live = cond live (b.at % 2 ^ 48) (min b.at (2 ^ 32))
 
-live_batch : (b : Batch) (at : ℕ) → b.live ≡ true → b.at ≡ at → address_of b ≡ at % 2 ^ 48
+live_batch : (b : Batch) (at : ℕ) → b.live ≡ true → b.at ≡ at → batch_address b ≡ at % 2 ^ 48
 unfolding in_batch
 live_batch b at alive is = ap (in_batch b) alive ∙ ap (λ n. n % 2 ^ 48) is
 
@@ -76,7 +76,7 @@ fits : (at : ℕ) → at % 4 ≡ 0 → (at % 2 ^ 48) % 4 ≡ 0
 fits at fit = omega arith
 
 live-level : (p : Layout) (engine ring : ℕ) (first second : Option Batch) (f s : Option Level) → LevelAt p first f → LevelAt p second s → LevelMayStand Privileged engine f → LevelMayStand Second engine s → privileged_by f s ≡ false
-    → LiveAt (live_at_by f s) (front_by ring first second)
+    → LiveAt (live_at_by f s) (active_head_by ring first second)
 live-level p engine ring first (Some b) f (Some (Fetched items)) one two mf ms live = cc
 live-level p engine ring first (Some b) f (Some (At at)) one two mf ms live = record { at = at % 2 ^ 48; own = refl; device = live_batch b at two.0 two.1; fit = fits at ms }
 live-level p engine ring first (Some b) f None one two mf ms live = absurd two
@@ -112,33 +112,33 @@ module _ (d : Device) (placed : Placed) (pages : Pages) (p : PrivateDevice) (eng
       (touches_agree set at.parts ws engine b (untouched space) (untouched first) (record { same = at_first; trace = refl }) may).after.trace
       ∙ ap (on_hosts placed) (asked_and_granted space at.root ws engine b)
 
-  mode : (b : Bool) → own_is_privileged w.left ≡ b → is_privileged l.place ≡ b
+  mode : (b : Bool) → is_privileged w.left ≡ b → runs_privileged l.place ≡ b
   mode b is = same-privileged d image layout engine l w.left at.loaded at.place at.left ∙ is
 
   -- the operands of the front command, as the device reads it and as the private device does
-  module _ (b : Bool) (own : own_is_privileged w.left ≡ b) (c ws : List ℕ) (m n : ℕ) (starts : at_front d engine l ≡ first) (taken : decoded (fetched d l).words ≡ Ok (c, m)) (own_taken : decoded (front_words p engine w) ≡ Ok (ws, n)) where
+  module _ (b : Bool) (own : is_privileged w.left ≡ b) (c ws : List ℕ) (m n : ℕ) (starts : at_front d engine l ≡ first) (taken : decoded (head_read d l).words ≡ Ok (c, m)) (own_taken : decoded (front_words p engine w) ≡ Ok (ws, n)) where
     by_test : ((s : Recorded Stepping) → effect recorded_operations c engine b s ≡ effect recorded_operations ws engine b s) → MayDo (MayReach p.ranges) engine b (kind_of ws) → (t : Bool)
-        → cond t (trace c b first) [] ≡ on_hosts placed (given_by space (cond t (command_asked ws engine (own_is_privileged w.left)) []))
+        → cond t (trace c b first) [] ≡ on_hosts placed (given_by space (cond t (command_asked ws engine (is_privileged w.left)) []))
     by_test alike may true =
         ap (λ (e : Effect (Recorded Stepping)). e.after.trace) (alike (untouched first))
         ∙ traced ws b may
         ∙ ap (λ v. on_hosts placed (given_by space (command_asked ws engine v))) (sym own)
     by_test alike may false = refl
 
-    operands : ((s : Recorded Stepping) → effect recorded_operations c engine b s ≡ effect recorded_operations ws engine b s) → MayDo (MayReach p.ranges) engine b (kind_of ws) → is_allowed c (stands_of l.place) engine ≡ is_allowed ws (own_stands_of w.left) engine
-        → operands_touched d engine l (decoded (fetched d l).words) ≡ on_hosts placed (given_by space (listed_asked engine w.left (decoded (front_words p engine w))))
+    operands : ((s : Recorded Stepping) → effect recorded_operations c engine b s ≡ effect recorded_operations ws engine b s) → MayDo (MayReach p.ranges) engine b (kind_of ws) → is_allowed c (stands_at l.place) engine ≡ is_allowed ws (stands_of w.left) engine
+        → operands_touched d engine l (decoded (head_read d l).words) ≡ on_hosts placed (given_by space (listed_asked engine w.left (decoded (front_words p engine w))))
     operands alike may allowed =
         ap (operands_touched d engine l) taken
         ∙ (λ i. cond (allowed i) (trace c (mode b own i) (starts i)) [])
-        ∙ by_test alike may (is_allowed ws (own_stands_of w.left) engine)
+        ∙ by_test alike may (is_allowed ws (stands_of w.left) engine)
         ∙ ap (λ r. on_hosts placed (given_by space (listed_asked engine w.left r))) (sym own_taken)
 
   -- code and operands together
-  whole : (b : Bool) → own_is_privileged w.left ≡ b → live_code_touched d l b ≡ on_hosts placed (given_by space (code_asked_at read (live_at w.left)))
-      → operands_touched d engine l (decoded (fetched d l).words) ≡ on_hosts placed (given_by space (listed_asked engine w.left (decoded (front_words p engine w))))
+  whole : (b : Bool) → is_privileged w.left ≡ b → live_code_touched d l b ≡ on_hosts placed (given_by space (code_asked_at read (live_at w.left)))
+      → operands_touched d engine l (decoded (head_read d l).words) ≡ on_hosts placed (given_by space (listed_asked engine w.left (decoded (front_words p engine w))))
       → front_touched d engine l ≡ on_hosts placed (given_by space (front_asked p engine w))
   whole b own code operand =
-      (λ i. live_code_touched d l (mode b own i) ++ operands_touched d engine l (decoded (fetched d l).words))
+      (λ i. live_code_touched d l (mode b own i) ++ operands_touched d engine l (decoded (head_read d l).words))
       ∙ joined placed _ _ (given_by space (code_asked_at read (live_at w.left))) (given_by space (listed_asked engine w.left (decoded (front_words p engine w)))) code operand
       ∙ ap (on_hosts placed) (sym (flat_map-append (given_one (reads space) (writes space)) (code_asked_at read (live_at w.left)) (listed_asked engine w.left (decoded (front_words p engine w)))))
 
@@ -147,7 +147,7 @@ module _ (d : Device) (placed : Placed) (pages : Pages) (p : PrivateDevice) (eng
 
   -- ---- the ring and fetched batches
 
-  fetched-touches : is_done w.left ≡ false → own_is_privileged w.left ≡ true → front_touched d engine l ≡ on_hosts placed (given_by space (front_asked p engine w))
+  fetched-touches : is_done w.left ≡ false → is_privileged w.left ≡ true → front_touched d engine l ≡ on_hosts placed (given_by space (front_asked p engine w))
   fetched-touches more priv =
       let ws = front_words p engine w in
       let runs : Runs d image layout l w.left ws = runs-fetched d image layout l engine w.left (live_command read) at.place at.left more priv in
@@ -159,14 +159,14 @@ module _ (d : Device) (placed : Placed) (pages : Pages) (p : PrivateDevice) (eng
       ∙ ap (λ x. effect recorded_operations x engine true s) (sym (next.front (live_command read)))) in
       whole true priv (ap (λ o. on_hosts placed (given_by space (code_asked_at read o))) (sym (no_live w.left.first w.left.second priv)))
       (operands true priv runs.c ws (length runs.c) (length ws) (ap straight_start runs.strayed) (ap decoded runs.words ∙ runs.same.decoded) runs.own alike may.owned
-      (runs.same.allowed (stands_of l.place) engine ∙ ap (λ s. is_allowed ws s engine) (same-stands d image layout engine l w.left at.loaded at.place at.left)))
+      (runs.same.allowed (stands_at l.place) engine ∙ ap (λ s. is_allowed ws s engine) (same-stands d image layout engine l w.left at.loaded at.place at.left)))
 
   -- ---- live batches
 
   agrees : ReadsSame d l.root read
   agrees = code-read set at.parts space first at_first
 
-  live-code : own_is_privileged w.left ≡ false → live_code_touched d l false ≡ on_hosts placed (given_by space (code_asked_at read (live_at w.left)))
+  live-code : is_privileged w.left ≡ false → live_code_touched d l false ≡ on_hosts placed (given_by space (code_asked_at read (live_at w.left)))
   live-code live =
       let here = live-level layout engine (l.ring_start + l.place.ring) l.place.first l.place.second w.left.first w.left.second at.place.place.first at.place.place.second at.left.first at.left.second live in
       let n = read_length (length_of (read here.at)) in
@@ -176,8 +176,8 @@ module _ (d : Device) (placed : Placed) (pages : Pages) (p : PrivateDevice) (eng
       ∙ ap (on_hosts placed) (codes_given (reads space) (writes space) here.at n here.fit)
       ∙ ap (λ o. on_hosts placed (given_by space (code_asked_at read o))) (sym here.own)
 
-  live-operands : own_is_privileged w.left ≡ false → (r : Result (List ℕ × ℕ) UnlistedError) → decoded (front_words p engine w) ≡ r
-      → operands_touched d engine l (decoded (fetched d l).words) ≡ on_hosts placed (given_by space (listed_asked engine w.left (decoded (front_words p engine w))))
+  live-operands : is_privileged w.left ≡ false → (r : Result (List ℕ × ℕ) UnlistedError) → decoded (front_words p engine w) ≡ r
+      → operands_touched d engine l (decoded (head_read d l).words) ≡ on_hosts placed (given_by space (listed_asked engine w.left (decoded (front_words p engine w))))
   live-operands live (Err e) bad =
       let words = live-fetched d image layout l engine w.left read at.place at.left agrees live in
       ap (operands_touched d engine l) (ap decoded words ∙ bad) ∙ ap (λ r. on_hosts placed (given_by space (listed_asked engine w.left r))) (sym bad)
@@ -186,7 +186,7 @@ module _ (d : Device) (placed : Placed) (pages : Pages) (p : PrivateDevice) (eng
       operands false live ws ws n n (ap straight_start (code-straight set at.parts space first at_first (mode false live))) (ap decoded words ∙ taken) taken (λ s. refl) (live_code_may p.ranges ws engine)
       (ap (λ s. is_allowed ws s engine) (same-stands d image layout engine l w.left at.loaded at.place at.left))
 
-  by_mode : (b : Bool) → is_done w.left ≡ false → own_is_privileged w.left ≡ b → front_touched d engine l ≡ on_hosts placed (given_by space (front_asked p engine w))
+  by_mode : (b : Bool) → is_done w.left ≡ false → is_privileged w.left ≡ b → front_touched d engine l ≡ on_hosts placed (given_by space (front_asked p engine w))
   by_mode true more priv = fetched-touches more priv
   by_mode false more live = whole false live (live-code live) (live-operands live (decoded (front_words p engine w)) refl)
 
@@ -197,7 +197,7 @@ module _ (d : Device) (placed : Placed) (pages : Pages) (p : PrivateDevice) (eng
 
   by_done : (b : Bool) → is_done w.left ≡ b → cond b [] (front_touched d engine l) ≡ on_hosts placed (given_by space (cond b [] (front_asked p engine w)))
   by_done true done = refl
-  by_done false more = by_mode (own_is_privileged w.left) more refl
+  by_done false more = by_mode (is_privileged w.left) more refl
 
   pub exact : StepsExactly d engine placed p w
   unfolding step_touched

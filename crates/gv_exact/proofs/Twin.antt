@@ -13,7 +13,7 @@ use Rattle.gv_cmd.specs.Kind.{IsLength}
 use Rattle.gv_cmd.specs.Table.{length_of, read_length}
 use Rattle.gv_cmd.proofs.Lengths.{length_of-form}
 use Rattle.gv_entry.specs.SameTables.{has}
-use Rattle.gv_entry.specs.Tables.{is_guarded, words_of}
+use Rattle.gv_entry.specs.Tables.{is_guarded, frame_words}
 use Rattle.gv_entry.proofs.SameTables.{unguarded_frame_keeps_tables}
 use Rattle.gv_fetch.specs.Fetch.{dwords}
 use Rattle.gv_fetch.specs.Left.{live_command}
@@ -56,8 +56,8 @@ module _ (p : PrivateSpace) (member : has p.roots p.root ≡ true) (frame index 
     second : Like p y
     general : x.general ≡ y.general
     frames : length x.memory ≡ length y.memory
-    longs : (g : ℕ) → length (words_of x.memory g) ≡ length (words_of y.memory g)
-    words : (g k : ℕ) → (eqb g frame && eqb k index) ≡ false → get_or (words_of x.memory g) k 0 ≡ get_or (words_of y.memory g) k 0
+    longs : (g : ℕ) → length (frame_words x.memory g) ≡ length (frame_words y.memory g)
+    words : (g k : ℕ) → (eqb g frame && eqb k index) ≡ false → get_or (frame_words x.memory g) k 0 ≡ get_or (frame_words y.memory g) k 0
 
   module _ (x y : PrivateSpace) (twin : Twin x y) where
     reads_same : (global : Bool) (at : ℕ) → reads x global at ≡ reads y global at
@@ -96,18 +96,18 @@ module _ (p : PrivateSpace) (member : has p.roots p.root ≡ true) (frame index 
     at_grant None at h first second = record { first = first; second = second; general = twin.general; frames = twin.frames; longs = twin.longs; words = twin.words }
     at_grant (Some f) at h first second =
         let j = at % 4096 / 8 in
-        let u = h (get_or (words_of x.memory f) j 0) in
-        let v = h (get_or (words_of y.memory f) j 0) in
+        let u = h (get_or (frame_words x.memory f) j 0) in
+        let v = h (get_or (frame_words y.memory f) j 0) in
         record {
           first = first;
           second = second;
           general = twin.general;
-          frames = length-set x.memory f (set (words_of x.memory f) j u) ∙ twin.frames ∙ sym (length-set y.memory f (set (words_of y.memory f) j v));
+          frames = length-set x.memory f (set (frame_words x.memory f) j u) ∙ twin.frames ∙ sym (length-set y.memory f (set (frame_words y.memory f) j v));
           longs = λ g. length_after x.memory f j u g ∙ twin.longs g ∙ sym (length_after y.memory f j v g);
           words = λ g k other.
               word_after x.memory f j u g k
-              ∙ ap (λ b. cond (eqb g f && eqb k j && b) u (get_or (words_of x.memory g) k 0)) (λ i. ltb f (twin.frames i) && ltb j (twin.longs f i))
-              ∙ by_place f j g k (h (get_or (words_of x.memory f) j 0)) (h (get_or (words_of y.memory f) j 0)) (ltb f (length y.memory) && ltb j (length (words_of y.memory f))) other (λ here. ap h (twin.words f j here))
+              ∙ ap (λ b. cond (eqb g f && eqb k j && b) u (get_or (frame_words x.memory g) k 0)) (λ i. ltb f (twin.frames i) && ltb j (twin.longs f i))
+              ∙ by_place f j g k (h (get_or (frame_words x.memory f) j 0)) (h (get_or (frame_words y.memory f) j 0)) (ltb f (length y.memory) && ltb j (length (frame_words y.memory f))) other (λ here. ap h (twin.words f j here))
               ∙ sym (word_after y.memory f j v g k);
         }
       where
@@ -117,7 +117,7 @@ module _ (p : PrivateSpace) (member : has p.roots p.root ≡ true) (frame index 
         by_test false c u v s t one two = two
 
         by_place : (f j g k u v : ℕ) (c : Bool) → (eqb g frame && eqb k index) ≡ false → ((eqb f frame && eqb j index) ≡ false → u ≡ v)
-            → cond (eqb g f && eqb k j && c) u (get_or (words_of x.memory g) k 0) ≡ cond (eqb g f && eqb k j && c) v (get_or (words_of y.memory g) k 0)
+            → cond (eqb g f && eqb k j && c) u (get_or (frame_words x.memory g) k 0) ≡ cond (eqb g f && eqb k j && c) v (get_or (frame_words y.memory g) k 0)
         by_place f j g k u v c other one = by_test (eqb g f && eqb k j) c u v _ _ (λ is. one (moved is)) (twin.words g k other)
           where
             moved : (eqb g f && eqb k j) ≡ true → (eqb f frame && eqb j index) ≡ false
@@ -190,12 +190,12 @@ module _ (p : PrivateSpace) (member : has p.roots p.root ≡ true) (frame index 
   other_twin : (value : ℕ) → is_guarded p.memory p.roots frame ≡ false → Twin p (with_other p frame index value)
   other_twin value free = record {
     first = itself p;
-    second = record { ranges = refl; entries = refl; roots = refl; root = refl; tables = unguarded_frame_keeps_tables p.memory p.roots frame (set (words_of p.memory frame) index value) free };
+    second = record { ranges = refl; entries = refl; roots = refl; root = refl; tables = unguarded_frame_keeps_tables p.memory p.roots frame (set (frame_words p.memory frame) index value) free };
     general = refl;
-    frames = sym (length-set p.memory frame (set (words_of p.memory frame) index value));
+    frames = sym (length-set p.memory frame (set (frame_words p.memory frame) index value));
     longs = λ g. sym (length_after p.memory frame index value g);
     words = λ g k other. sym (word_after p.memory frame index value g k
-        ∙ ap (λ b. cond (b && (ltb frame (length p.memory) && ltb index (length (words_of p.memory frame)))) value (get_or (words_of p.memory g) k 0)) other);
+        ∙ ap (λ b. cond (b && (ltb frame (length p.memory) && ltb index (length (frame_words p.memory frame)))) value (get_or (frame_words p.memory g) k 0)) other);
   }
 
   agree : (value : ℕ) (ws : List ℕ) (engine : ℕ) (privileged : Bool) → is_guarded p.memory p.roots frame ≡ false → reads_word (command_touched ws engine privileged p) frame index ≡ false

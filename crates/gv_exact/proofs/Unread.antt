@@ -5,7 +5,7 @@ use Rattle.std.proofs.lemmas.Bool.Decides.{nat_tests}
 use Rattle.std.proofs.lemmas.List.Folds.{list_any-append}
 use Rattle.gv_types.specs.Memory.{Memory}
 use Rattle.gv_cmd.specs.Bits.{register}
-use Rattle.gv_cmd.specs.Effect.{Operations, Effect, general_of, is_skipped, ran, read_by, set_by, loaded_by, register_set, registers_set, register_read, dwords_stored, post_written, rows_copied, rows_filled, compares, waited, performed, effect_of, effect}
+use Rattle.gv_cmd.specs.Effect.{Operations, Effect, general_of, is_skipped, ran, general_read_by, general_set_by, general_loaded_by, engine_register_set, engine_registers_set, engine_register_read, dwords_stored, post_written, rows_copied, rows_filled, compares, waited, performed, effect_of, effect}
 use Rattle.gv_cmd.specs.Rows.{rows}
 use Rattle.gv_cmd.specs.Table.{kind_of}
 use Rattle.gv_cmd.specs.declared.blit.Blit.{Blit}
@@ -69,22 +69,22 @@ module _ {S : Type 0} (ops : Operations S) (reach : Reach S) (frame index : ℕ)
       let before : Fine r = safe_left frame index r.trace (dword_touched true (reach.writes r.now global at) at) fine in
       subst (λ u. Same (ops.stored r.now global at v) (ops.stored s global at u)) (is before) (alike.stored r.now s global at v (rel before))
 
-  sets : (r : Recorded S) (s : S) (n : Option ℕ) (v w : ℕ) → (Fine r → v ≡ w) → Rel r s → Rel (set_by rec r n v) (set_by ops s n w)
+  sets : (r : Recorded S) (s : S) (n : Option ℕ) (v w : ℕ) → (Fine r → v ≡ w) → Rel r s → Rel (general_set_by rec r n v) (general_set_by ops s n w)
   sets r s None v w is rel = rel
   sets r s (Some n) v w is rel = λ fine. subst (λ u. Same (ops.general_set r.now n v) (ops.general_set s n u)) (is fine) (alike.set r.now s n v (rel fine))
 
-  reads_general : (r : Recorded S) (s : S) (n : Option ℕ) → Rel r s → Fine r → read_by rec r n ≡ read_by ops s n
+  reads_general : (r : Recorded S) (s : S) (n : Option ℕ) → Rel r s → Fine r → general_read_by rec r n ≡ general_read_by ops s n
   reads_general r s None rel fine = refl
   reads_general r s (Some n) rel fine = alike.gives r.now s n (rel fine)
 
-  registers : (engine : ℕ) (r : Recorded S) (s : S) (ws : List ℕ) → Rel r s → Rel (registers_set rec engine r ws) (registers_set ops engine s ws)
+  registers : (engine : ℕ) (r : Recorded S) (s : S) (ws : List ℕ) → Rel r s → Rel (engine_registers_set rec engine r ws) (engine_registers_set ops engine s ws)
   registers engine r s [] rel = rel
   registers engine r s (w ∷ []) rel = rel
   registers engine r s (w ∷ value ∷ ws) rel =
-      registers engine (register_set rec engine r (register (w ∷ []) 0) value) (register_set ops engine s (register (w ∷ []) 0) value) ws
+      registers engine (engine_register_set rec engine r (register (w ∷ []) 0) value) (engine_register_set ops engine s (register (w ∷ []) 0) value) ws
       (sets r s (general_of engine (register (w ∷ []) 0)) value value (λ fine. refl) rel)
 
-  loads : (r : Recorded S) (s : S) (n : Option ℕ) (global : Bool) (at : ℕ) → Rel r s → Rel (loaded_by rec r n global at) (loaded_by ops s n global at)
+  loads : (r : Recorded S) (s : S) (n : Option ℕ) (global : Bool) (at : ℕ) → Rel r s → Rel (general_loaded_by rec r n global at) (general_loaded_by ops s n global at)
   loads r s None global at rel = rel
   loads r s (Some n) global at rel =
       sets (rec.load_leaves r global at) (ops.load_leaves s global at) (Some n) (ops.load_gives r.now global at) (ops.load_gives s global at) (loaded r s global at rel) (left r s global at rel)
@@ -141,12 +141,12 @@ module _ {S : Type 0} (ops : Operations S) (reach : Reach S) (frame index : ℕ)
     done (Store global at low high) = record { after = dwords r s global at low high rel; raise = λ fine. refl }
     done (LoadRegisters pairs) = record { after = registers engine r s (drop 1 ws) rel; raise = λ fine. refl }
     done (StoreRegister global register at) = record {
-      after = stored r s global at (register_read rec engine r register) (register_read ops engine s register) (reads_general r s (general_of engine register) rel) rel;
+      after = stored r s global at (engine_register_read rec engine r register) (engine_register_read ops engine s register) (reads_general r s (general_of engine register) rel) rel;
       raise = λ fine. refl;
     }
     done (LoadRegister global register at) = record { after = loads r s (general_of engine register) global at rel; raise = λ fine. refl }
     done (MoveRegister from to) = record {
-      after = sets r s (general_of engine to) (register_read rec engine r from) (register_read ops engine s from) (reads_general r s (general_of engine from) rel) rel;
+      after = sets r s (general_of engine to) (engine_register_read rec engine r from) (engine_register_read ops engine s from) (reads_general r s (general_of engine from) rel) rel;
       raise = λ fine. refl;
     }
     done (CopyMemory from_global from to_global to) = record {

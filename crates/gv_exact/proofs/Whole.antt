@@ -11,10 +11,10 @@ use Rattle.gv_cmd.specs.Simulation.{Simulates}
 use Rattle.gv_cmd.specs.Table.{kind_of}
 use Rattle.gv_cmd.specs.declared.command.Unlisted.{Unlisted as UnlistedError}
 use Rattle.gv_cmd.proofs.Simulation.{effects_agree}
-use Rattle.gv_gpu.specs.Device.{Device, Loaded, with_word, with_loaded}
+use Rattle.gv_gpu.specs.Device.{Device, Loaded, with_page_word, with_loaded}
 use Rattle.gv_gpu.specs.declared.step.Step.TheVariants.{Unlisted, Ended}
 use Rattle.gv_gpu.specs.Physical.{word_in, word_stored, read_page, write_page, byte_at, byte_stored, operand_stored, write_strays}
-use Rattle.gv_gpu.specs.Step.{Stepping, operations, bytes_stored, bytes_stray, stands_of, is_privileged, fetched, settled, stepped_by, stepped_with, command_step, front_step, has_ended, step_with, physical_step}
+use Rattle.gv_gpu.specs.Step.{Stepping, operations, bytes_stored, bytes_stray, stands_at, runs_privileged, head_read, settled, stepped_by, stepped_with, command_step, front_step, has_ended, step_with, physical_step}
 use Rattle.gv_exact.specs.Touched.{Touch, Recorded, untouched, byte_touched, dword_touched, bytes_touched}
 use Rattle.gv_exact.specs.Exact.{recorded_operations, at_front, live_code_touched, operands_touched, front_touched, touched_with, step_touched}
 use Rattle.gv_exact.specs.Laws.{hits, writes_word, OnlyRecordedIsWritten}
@@ -22,7 +22,7 @@ use Rattle.gv_exact.proofs.Touches.{Any, any_do}
 use Rattle.gv_exact.proofs.Unread.{or_left, or_right}
 
 -- a word of another page, or another word
-other_word : (d : Device) (q i word page index : ℕ) → (eqb q page && eqb i index) ≡ false → get_or ((with_word d q i word).words page) index 0 ≡ get_or (d.words page) index 0
+other_word : (d : Device) (q i word page index : ℕ) → (eqb q page && eqb i index) ≡ false → get_or ((with_page_word d q i word).words page) index 0 ≡ get_or (d.words page) index 0
 other_word d q i word page index none = grind (arith, common_steps)
 
 -- one more byte
@@ -140,21 +140,21 @@ module _ (page index : ℕ) where
 
   module _ (d : Device) (engine : ℕ) (l : Loaded) where
     if_allowed : (ws : List ℕ) (dwords : ℕ) (b : Bool)
-        → writes_word (cond b ((effect recorded_operations ws engine (is_privileged l.place) (untouched (at_front d engine l))).after.trace) []) page index ≡ false
-        → word (cond b (stepped_with engine l ws dwords (effect operations ws engine (is_privileged l.place) (at_front d engine l))) (record { after = settled (at_front d engine l); answer = Unlisted })).after ≡ word d
+        → writes_word (cond b ((effect recorded_operations ws engine (runs_privileged l.place) (untouched (at_front d engine l))).after.trace) []) page index ≡ false
+        → word (cond b (stepped_with engine l ws dwords (effect operations ws engine (runs_privileged l.place) (at_front d engine l))) (record { after = settled (at_front d engine l); answer = Unlisted })).after ≡ word d
     if_allowed ws dwords true none =
-        by_raise engine l ws dwords (effect operations ws engine (is_privileged l.place) (at_front d engine l)).after (effect operations ws engine (is_privileged l.place) (at_front d engine l)).raise
-        ∙ command_kept d ws engine (is_privileged l.place) (at_front d engine l) refl none
+        by_raise engine l ws dwords (effect operations ws engine (runs_privileged l.place) (at_front d engine l)).after (effect operations ws engine (runs_privileged l.place) (at_front d engine l)).raise
+        ∙ command_kept d ws engine (runs_privileged l.place) (at_front d engine l) refl none
     if_allowed ws dwords false none = refl
 
     by_command : (r : Result (List ℕ × ℕ) UnlistedError) → writes_word (operands_touched d engine l r) page index ≡ false → word (command_step (at_front d engine l) r).after ≡ word d
     by_command (Err e) none = refl
-    by_command (Ok (ws, dwords)) none = if_allowed ws dwords (is_allowed ws (stands_of l.place) engine) none
+    by_command (Ok (ws, dwords)) none = if_allowed ws dwords (is_allowed ws (stands_at l.place) engine) none
 
     at_end : (b : Bool) → writes_word (cond b [] (front_touched d engine l)) page index ≡ false → word (cond b (record { after = with_loaded d engine None; answer = Ended }) (front_step d engine l)).after ≡ word d
     unfolding front_step
     at_end true none = refl
-    at_end false none = by_command (decoded (fetched d l).words) (split_right (live_code_touched d l (is_privileged l.place)) (operands_touched d engine l (decoded (fetched d l).words)) none)
+    at_end false none = by_command (decoded (head_read d l).words) (split_right (live_code_touched d l (runs_privileged l.place)) (operands_touched d engine l (decoded (head_read d l).words)) none)
 
   by_loaded : (d : Device) (engine : ℕ) (o : Option Loaded) → writes_word (touched_with d engine o) page index ≡ false → word (step_with d engine o).after ≡ word d
   by_loaded d engine None none = refl

@@ -5,10 +5,10 @@ use Rattle.gv_cmd.specs.Command.{decoded}
 use Rattle.gv_cmd.specs.Effect.{Operations, effect}
 use Rattle.gv_cmd.specs.Table.{length_of, read_length}
 use Rattle.gv_cmd.specs.declared.command.Unlisted.{Unlisted as UnlistedError}
-use Rattle.gv_fetch.specs.Left.{Level, Fetched, At, Left, is_done, is_privileged as own_is_privileged, stands_of as own_stands_of}
+use Rattle.gv_fetch.specs.Left.{Level, Fetched, At, Left, is_done, is_privileged, stands_of}
 use Rattle.gv_gpu.specs.Device.{Device, Loaded}
 use Rattle.gv_gpu.specs.Physical.{read_page, write_page, dword_at}
-use Rattle.gv_gpu.specs.Step.{Stepping, operations, stands_of, is_privileged, front_at, fetched, has_ended}
+use Rattle.gv_gpu.specs.Step.{Stepping, operations, stands_at, runs_privileged, active_head, head_read, has_ended}
 use Rattle.gv_guest.specs.Placed.{Placed}
 use Rattle.gv_private.specs.Device.{PrivateDevice, Working}
 use Rattle.gv_private.specs.Space.{PrivateSpace, space_of, reads, writes, operand_read, private_operations}
@@ -25,24 +25,24 @@ recorded_operations = recorded operations (record {
 })
 
 abbrev pub at_front : Device → ℕ → Loaded → Stepping
-at_front d engine l = record { device = d; engine = engine; context = l; strayed = (fetched d l).strayed }
+at_front d engine l = record { device = d; engine = engine; context = l; strayed = (head_read d l).strayed }
 
 -- The bytes of live code that are read: the front command, or its header alone where no row has that header. Other
 -- code is read from its copy, which is no guest memory.
 abbrev pub live_code_touched : Device → Loaded → Bool → List Touch
 live_code_touched d l true = []
-live_code_touched d l false = codes_touched (λ at. read_page d l.root false at) (front_at l) (read_length (length_of (dword_at d l.root false (front_at l))))
+live_code_touched d l false = codes_touched (λ at. read_page d l.root false at) (active_head l) (read_length (length_of (dword_at d l.root false (active_head l))))
 
 -- what the front command reads as operands, and writes
 abbrev pub operands_touched : Device → ℕ → Loaded → Result (List ℕ × ℕ) UnlistedError → List Touch
 operands_touched d engine l (Err e) = []
 operands_touched d engine l (Ok (ws, dwords)) =
-    if is_allowed ws (stands_of l.place) engine
-    then (effect recorded_operations ws engine (is_privileged l.place) (untouched (at_front d engine l))).after.trace
+    if is_allowed ws (stands_at l.place) engine
+    then (effect recorded_operations ws engine (runs_privileged l.place) (untouched (at_front d engine l))).after.trace
     else []
 
 abbrev pub front_touched : Device → ℕ → Loaded → List Touch
-front_touched d engine l = live_code_touched d l (is_privileged l.place) ++ operands_touched d engine l (decoded (fetched d l).words)
+front_touched d engine l = live_code_touched d l (runs_privileged l.place) ++ operands_touched d engine l (decoded (head_read d l).words)
 
 abbrev pub touched_with : Device → ℕ → Option Loaded → List Touch
 touched_with d engine None = []
@@ -80,7 +80,7 @@ code_asked_at read (Some at) = codes_asked at (read_length (length_of (read at))
 -- what the front command asks for, if its dwords are a command that may stand there
 abbrev pub listed_asked : ℕ → Left → Result (List ℕ × ℕ) UnlistedError → List Ask
 listed_asked engine w (Err e) = []
-listed_asked engine w (Ok (ws, dwords)) = if is_allowed ws (own_stands_of w) engine then command_asked ws engine (own_is_privileged w) else []
+listed_asked engine w (Ok (ws, dwords)) = if is_allowed ws (stands_of w) engine then command_asked ws engine (is_privileged w) else []
 
 abbrev pub front_asked : PrivateDevice → ℕ → Working → List Ask
 front_asked p engine w = code_asked_at (operand_read (space_of p engine w.root) false) (live_at w.left) ++ listed_asked engine w.left (decoded (front_words p engine w))

@@ -5,7 +5,7 @@ use Rattle.gv_cmd.specs.Effect.{Effect, effect}
 use Rattle.gv_cmd.specs.Simulation.{EffectsAgree}
 use Rattle.gv_entry.specs.Ranges.{InParts}
 use Rattle.gv_entry.specs.SameTables.{has}
-use Rattle.gv_entry.specs.Tables.{words_of, is_guarded}
+use Rattle.gv_entry.specs.Tables.{frame_words, is_guarded}
 use Rattle.gv_fetch.specs.Left.{live_command}
 use Rattle.gv_gpu.specs.Device.{Device, Loaded}
 use Rattle.gv_gpu.specs.Step.{Stepping, operations, physical_step}
@@ -84,13 +84,13 @@ reads_word trace page index = list_any (reads_hit page index) trace
 
 -- another value in one word of a frame
 abbrev pub with_other : PrivateSpace → ℕ → ℕ → ℕ → PrivateSpace
-with_other s frame index value = record s { memory = slice_set s.memory frame (slice_set (words_of s.memory frame) index value) }
+with_other s frame index value = record s { memory = slice_set s.memory frame (slice_set (frame_words s.memory frame) index value) }
 
 -- Effects that agree in what they raise, in the general registers, and in every word but this one.
 pub record AgreeBut (frame index : ℕ) (e f : Effect PrivateSpace) : Type 0 where
   pub raise : e.raise ≡ f.raise
   pub general : e.after.general ≡ f.after.general
-  pub words : (g k : ℕ) → (g == frame && k == index) ≡ false → slice_index (words_of e.after.memory g) k ≡ slice_index (words_of f.after.memory g) k
+  pub words : (g k : ℕ) → (g == frame && k == index) ≡ false → slice_index (frame_words e.after.memory g) k ≡ slice_index (frame_words f.after.memory g) k
 
 -- What isn't recorded as read doesn't matter: with another value in such a word of a frame that is no table, a
 -- command does the same.

@@ -1,7 +1,7 @@
 ghost use Rattle.std.specs.Prelude.{◌≡◌, ◌<◌, Some, IfSome, ◌^◌};
 ghost use Rattle.gv_cmd.specs.Kind.{IsKindOf, IsBlit, IsPostWrite};
 ghost use Rattle.gv_cmd.specs.Rows.{rows};
-ghost use Rattle.gv_cmd.specs.Effect.{general_of, register_read, loaded_by, dwords_stored, post_written, rows_copied, rows_filled, compares, waited, performed};
+ghost use Rattle.gv_cmd.specs.Effect.{general_of, engine_register_read, general_loaded_by, dwords_stored, post_written, rows_copied, rows_filled, compares, waited, performed};
 ghost use Rattle.gv_exec.specs.Done.{raise_of};
 
 use crate::register::{general_of, register_read, register_set, registers_set};
@@ -116,7 +116,7 @@ fn post_write<S: Space>(space: &mut S, write: Option<PostWrite>)
 /// Loads a dword into a general register. For another register nothing is loaded.
 fn load_register<S: Space>(space: &mut S, n: Option<u8>, global: bool, at: u64)
     requires { IfSome n (λ k. k < 32) }
-    ensures left { S.state space.new ≡ loaded_by S.operations (S.state space.old) n global at }
+    ensures left { S.state space.new ≡ general_loaded_by S.operations (S.state space.old) n global at }
     ensures loans { S.loans space.new ≡ S.loans space.old }
 {
     if let Some(n) = n {

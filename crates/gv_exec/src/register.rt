@@ -1,6 +1,7 @@
 ghost use Rattle.std.specs.Prelude.{◌≡◌, ◌<◌, IfSome, Some, drop};
 ghost use Rattle.gv_cmd.specs.Table.{pair_count};
-ghost use Rattle.gv_cmd.specs.Effect.{base_of, general_of, register_read, register_set, registers_set};
+ghost use Rattle.gv_types.specs.Engines.{register_base};
+ghost use Rattle.gv_cmd.specs.Effect.{general_of, engine_register_read, engine_register_set, engine_registers_set};
 
 use crate::Space;
 use gv_cmd::Command;
@@ -8,7 +9,7 @@ use gv_cmd::Command;
 /// Where an engine's registers begin.
 fn base_of(engine: u8) -> u32
     requires { engine < 4 }
-    ensures { result ≡ base_of engine }
+    ensures { result ≡ register_base engine }
 {
     match engine {
         0 => 0x2000,
@@ -35,7 +36,7 @@ pub(crate) fn general_of(engine: u8, register: u32) -> Option<u8>
 /// A register that isn't general reads 0.
 pub(crate) fn register_read<S: Space>(space: &S, engine: u8, register: u32) -> u32
     requires { engine < 4 }
-    ensures { result ≡ register_read S.operations engine (S.state space.now) register }
+    ensures { result ≡ engine_register_read S.operations engine (S.state space.now) register }
 {
     match general_of(engine, register) {
         Some(n) => space.general(n),
@@ -46,7 +47,7 @@ pub(crate) fn register_read<S: Space>(space: &S, engine: u8, register: u32) -> u
 /// A register that isn't general isn't changed.
 pub(crate) fn register_set<S: Space>(space: &mut S, engine: u8, register: u32, value: u32)
     requires { engine < 4 }
-    ensures left { S.state space.new ≡ register_set S.operations engine (S.state space.old) register value }
+    ensures left { S.state space.new ≡ engine_register_set S.operations engine (S.state space.old) register value }
     ensures loans { S.loans space.new ≡ S.loans space.old }
 {
     if let Some(n) = general_of(engine, register) {
@@ -58,7 +59,7 @@ pub(crate) fn register_set<S: Space>(space: &mut S, engine: u8, register: u32, v
 pub(crate) fn registers_set<S: Space>(space: &mut S, engine: u8, command: &Command, pairs: u8)
     requires engine { engine < 4 }
     requires pairs { pairs ≡ pair_count command.now }
-    ensures left { S.state space.new ≡ registers_set S.operations engine (S.state space.old) (drop 1 command.now) }
+    ensures left { S.state space.new ≡ engine_registers_set S.operations engine (S.state space.old) (drop 1 command.now) }
     ensures loans { S.loans space.new ≡ S.loans space.old }
 {
     for n in 0..pairs {

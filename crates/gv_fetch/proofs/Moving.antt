@@ -2,7 +2,8 @@
 use Rattle.std.proofs.Common.{◌≡◌, ℕ, ◌+◌, ◌*◌, ◌/◌, ◌%◌, ◌^◌, Bool, true, false, List, get_or, Option, None, Some, refl, sym, subst, ◌∙◌, arith}
 use Rattle.std.specs.Bool.{MatchBool}
 use Rattle.gv_cmd.specs.Allowed.{is_allowed, may_stand}
-use Rattle.gv_cmd.specs.Bits.{bit, dword_address}
+use Rattle.gv_types.specs.Bits.{has_bit}
+use Rattle.gv_cmd.specs.Bits.{dword_address}
 use Rattle.gv_cmd.specs.Table.{kind_of}
 use Rattle.gv_cmd.specs.declared.kind.Kind.{Kind}
 use Rattle.gv_cmd.specs.declared.kind.Kind.TheVariants.{BatchEnd, BatchStart}
@@ -23,7 +24,7 @@ pub start-aligned : (ws : List ℕ) (live second : Bool) (at : ℕ) → kind_of 
 unfolding kind_of
 start-aligned ws live second at is =
     let s = header_start live second at (get_or ws 0 0) ws is in
-    let e = same_at live second (bit (get_or ws 0 0) 8) (bit (get_or ws 0 0) 22) at (dword_address ws 1) (sym (kind_start (get_or ws 0 0) ws s) ∙ is) in
+    let e = same_at live second (has_bit (get_or ws 0 0) 8) (has_bit (get_or ws 0 0) 22) at (dword_address ws 1) (sym (kind_start (get_or ws 0 0) ws s) ∙ is) in
     let P : ℕ → Type 0 = λ n. n % 4 ≡ 0 in
     subst P e (fits (get_or ws 2 0) (get_or ws 1 0))
 

@@ -2,7 +2,8 @@
 use Rattle.std.proofs.Common.{◌≡◌, ℕ, ◌+◌, ◌%◌, Bool, true, false, List, [], ◌∷◌, length, get_or, Option, None, Some, Ok, cond, eqb, is_some, refl, ap, sym, ◌∙◌, arith}
 use Rattle.std.proofs.lemmas.List.{append-nil}
 use Rattle.gv_cmd.specs.Allowed.{may_stand, is_allowed}
-use Rattle.gv_cmd.specs.Bits.{bit, bits, dword_address}
+use Rattle.gv_types.specs.Bits.{has_bit}
+use Rattle.gv_cmd.specs.Bits.{bits, dword_address}
 use Rattle.gv_cmd.specs.Command.{IsCommand, decoded, shape_of, shape_by}
 use Rattle.gv_cmd.specs.Effect.{Operations, effect, effect_of}
 use Rattle.gv_cmd.specs.Table.{kind_of}
@@ -55,8 +56,8 @@ copied second at ws to aligned command is =
       second = second;
       at = at;
       own = is;
-      copy = copy ∙ ap (λ n. Some (BatchStart (bit (get_or ws 0 0) 8) (bit (get_or ws 0 0) 22) n)) (address (get_or ws 0 0) to aligned)
-          ∙ fields false second (bit (get_or ws 0 0) 8) (bit (get_or ws 0 0) 22) at (dword_address ws 1) to own refl;
+      copy = copy ∙ ap (λ n. Some (BatchStart (has_bit (get_or ws 0 0) 8) (has_bit (get_or ws 0 0) 22) n)) (address (get_or ws 0 0) to aligned)
+          ∙ fields false second (has_bit (get_or ws 0 0) 8) (has_bit (get_or ws 0 0) 22) at (dword_address ws 1) to own refl;
       few = three_dwords;
       command = record { length = command.length ∙ ap Some three_dwords; kind = ap is_some copy };
     }

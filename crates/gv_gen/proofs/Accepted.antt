@@ -3,7 +3,7 @@ use Rattle.std.proofs.Common.{◌≡◌, ℕ, zero, suc, ◌+◌, ◌*◌, ◌/�
 use Rattle.std.proofs.lemmas.Bool.{lt-ltb}
 use Rattle.std.specs.Bool.{OnFalse}
 use Rattle.gv_text.specs.Grammar.{IsForm}
-use Rattle.gv_text.specs.Number.{check}
+use Rattle.gv_text.specs.Number.{provided}
 use Rattle.gv_text.specs.Script.{Script, accepts, ends, is_end, known_after, nothing_known, onto_script, script_on}
 use Rattle.gv_text.specs.declared.ending.Ending.TheVariants.{Done}
 use Rattle.gv_text.specs.declared.known.Known.{Known}
@@ -13,11 +13,11 @@ use Rattle.gv_gen.specs.declared.draw.Kind.{Kind}
 use Rattle.gv_gen.specs.declared.draw.Kind.TheVariants.{Store, Load, Submit, Turns, Switch, Map, Pointer, Move}
 use Rattle.gv_gen.specs.Draw.{next_state, drawn, draw_at, state_after}
 use Rattle.gv_gen.specs.Made.{AreAccepted, script_of_lines, script_made}
-use Rattle.gv_gen.specs.Script.{guest_line, set_up_lines, lines_by, round_lines, rounds_from, script_of_number, submit_lines}
+use Rattle.gv_gen.specs.Script.{made_guest_line, set_up_lines, lines_by, round_lines, rounds_from, script_of_number, submit_lines}
 
 -- both guests are there
 abbrev two_known : Bool → Known
-two_known begun = record (known_after (known_after nothing_known guest_line) guest_line) { begun = begun }
+two_known begun = record (known_after (known_after nothing_known made_guest_line) made_guest_line) { begun = begun }
 
 -- what is drawn has 31 bits
 drawn-small : (x : ℕ) → drawn x < 2 ^ 31

@@ -11,8 +11,8 @@ next_state x = (x * 6364136223846793005 + 1442695040888963407) % 2 ^ 64
 abbrev pub drawn : ℕ → ℕ
 drawn x = next_state x / 2 ^ 33
 
-abbrev pub kind_of : ℕ → Kind
-kind_of k =
+abbrev pub kind_drawn : ℕ → Kind
+kind_drawn k =
     if k == 0 then Store
     else (if k == 1 then Load
     else (if k == 2 then Submit
@@ -27,7 +27,7 @@ abbrev pub draw_at : ℕ → Draw
 draw_at x =
     let y = next_state x in
     let z = next_state y in
-    record { kind = kind_of (drawn x % 8); guest = drawn y % 2; value = drawn z }
+    record { kind = kind_drawn (drawn x % 8); guest = drawn y % 2; value = drawn z }
 
 abbrev pub state_after : ℕ → ℕ
 state_after x = next_state (next_state (next_state x))

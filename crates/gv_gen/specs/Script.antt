@@ -12,11 +12,11 @@ use Rattle.gv_gen.specs.declared.group.Group.TheVariants.{Guests, SetUp, Round, 
 use Rattle.gv_gen.specs.Draw.{draw_at, state_after}
 
 -- Each guest has 32 frames, and 16 pages of the global table's low part.
-abbrev pub guest_line : Line
-guest_line = lines.Guest (record { frames = 0x20; low = 0x10; high = 0 })
+abbrev pub made_guest_line : Line
+made_guest_line = lines.Guest (record { frames = 0x20; low = 0x10; high = 0 })
 
 abbrev pub guest_lines : List Line
-guest_lines = guest_line ∷ guest_line ∷ []
+guest_lines = made_guest_line ∷ made_guest_line ∷ []
 
 -- A guest's first five global pages map its frames 0 to 4. The context is at the first of them, the ring at the
 -- third, the status page at the fourth. The root is frame 8, and the process pages 0, 1 and 2 map the frames c, d
@@ -39,8 +39,8 @@ abbrev pub descriptor : ℕ → ℕ
 descriptor g = 0x500000119 + 0x100010000 * g
 
 -- a dword of frame d
-abbrev pub dword_at : ℕ → ℕ
-dword_at v = 0xD000 + 4 * (v % 1024)
+abbrev pub data_address : ℕ → ℕ
+data_address v = 0xD000 + 4 * (v % 1024)
 
 abbrev pub submit_lines : ℕ → ℕ → List Line
 submit_lines g v =
@@ -51,8 +51,8 @@ submit_lines g v =
     ∷ []
 
 abbrev pub lines_by : Kind → ℕ → ℕ → List Line
-lines_by Store g v = lines.Write g Memory Four (dword_at v) (v ∷ []) ∷ []
-lines_by Load g v = lines.Read g Memory Four (dword_at v) ∷ []
+lines_by Store g v = lines.Write g Memory Four (data_address v) (v ∷ []) ∷ []
+lines_by Load g v = lines.Read g Memory Four (data_address v) ∷ []
 lines_by Submit g v = submit_lines g v
 lines_by Turns g v = lines.Turn 1 (1 + v % 64) ∷ []
 lines_by Switch g v = lines.Switch 1 ∷ []

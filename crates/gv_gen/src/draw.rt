@@ -1,5 +1,5 @@
 ghost use Rattle.std.specs.Prelude.{◌≡◌, ◌<◌, ◌^◌};
-ghost use Rattle.gv_gen.specs.Draw.{next_state, drawn, kind_of, draw_at, state_after};
+ghost use Rattle.gv_gen.specs.Draw.{next_state, drawn, kind_drawn, draw_at, state_after};
 
 /// The state of the generator that the rounds draw from: a linear congruential one, modulo 2^64.
 #[derive(Clone, Copy, Debug, PartialEq, Eq)]
@@ -56,7 +56,7 @@ pub(crate) enum Kind {
 
 impl Kind {
     fn of(number: u32) -> Kind
-        ensures { result ≡ kind_of number }
+        ensures { result ≡ kind_drawn number }
     {
         match number {
             0 => Kind::Store,

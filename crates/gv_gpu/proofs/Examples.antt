@@ -6,8 +6,8 @@ use Rattle.std.specs.Prelude.{slice_index, slice_index_or}
 use Rattle.gv_types.specs.declared.ids.Label.{Label}
 use Rattle.gv_gpu.specs.Device.{Device, Loaded, empty_device}
 use Rattle.gv_gpu.specs.Physical.{third_table, second_table, first_table, leaf, read_page, write_page, byte_at, byte_stored, operand_at, dword_at, operand_stored, walk_strays, read_strays, dword_strays, write_strays, is_own_image}
-use Rattle.gv_gpu.specs.Context.{context_of, fields_stored, submitted, stopped}
-use Rattle.gv_gpu.specs.Step.{Stepped, dwords_from, dwords_stray, fetched, front_step, physical_step}
+use Rattle.gv_gpu.specs.Context.{context_of, fields_stored, context_submitted, stopped}
+use Rattle.gv_gpu.specs.Step.{Stepped, dwords_from, dwords_stray, head_read, front_step, physical_step}
 use Rattle.gv_gpu.specs.declared.step.Step.TheVariants.{Ran}
 use Rattle.gv_cmd.specs.Table.{kind_of}
 
@@ -138,21 +138,21 @@ globally_anothers = refl
 -- ---- a step
 
 abbrev after : Stepped
-after = physical_step (submitted device 1 0 0x10119) 1
+after = physical_step (context_submitted device 1 0 0x10119) 1
 
 runs : after.answer ≡ Ran (0x10000002 ∷ 4 ∷ 0 ∷ 5 ∷ []) 0
-unfolding third_table second_table first_table leaf read_page write_page operand_at dword_at operand_stored context_of submitted walk_strays read_strays dword_strays write_strays is_own_image dwords_from dwords_stray fetched front_step physical_step kind_of
+unfolding third_table second_table first_table leaf read_page write_page operand_at dword_at operand_stored context_of context_submitted walk_strays read_strays dword_strays write_strays is_own_image dwords_from dwords_stray head_read front_step physical_step kind_of
 runs = refl
 
 writes : after.after.words 7 ≡ 0x544332211 ∷ 0xff00 ∷ []
-unfolding third_table second_table first_table leaf read_page write_page operand_at dword_at operand_stored context_of submitted walk_strays read_strays dword_strays write_strays is_own_image dwords_from dwords_stray fetched front_step physical_step kind_of
+unfolding third_table second_table first_table leaf read_page write_page operand_at dword_at operand_stored context_of context_submitted walk_strays read_strays dword_strays write_strays is_own_image dwords_from dwords_stray head_read front_step physical_step kind_of
 writes = refl
 
 no_stray : after.after.strays ≡ 0
-unfolding third_table second_table first_table leaf read_page write_page operand_at dword_at operand_stored context_of submitted walk_strays read_strays dword_strays write_strays is_own_image dwords_from dwords_stray fetched front_step physical_step kind_of
+unfolding third_table second_table first_table leaf read_page write_page operand_at dword_at operand_stored context_of context_submitted walk_strays read_strays dword_strays write_strays is_own_image dwords_from dwords_stray head_read front_step physical_step kind_of
 no_stray = refl
 
 -- The place behind the command is saved: the dword 0x05 is 8 + 16.
 saves : slice_index ((stopped after.after 1).words 1) 2 ≡ 0x1800000000
-unfolding third_table second_table first_table leaf read_page write_page operand_at dword_at operand_stored context_of submitted walk_strays read_strays dword_strays write_strays is_own_image dwords_from dwords_stray fetched front_step physical_step kind_of fields_stored stopped
+unfolding third_table second_table first_table leaf read_page write_page operand_at dword_at operand_stored context_of context_submitted walk_strays read_strays dword_strays write_strays is_own_image dwords_from dwords_stray head_read front_step physical_step kind_of fields_stored stopped
 saves = refl

@@ -5,7 +5,7 @@ use Rattle.gv_cmd.specs.Command.{decoded}
 use Rattle.gv_cmd.specs.Effect.{Effect, effect}
 use Rattle.gv_cmd.specs.declared.command.Unlisted.{Unlisted as UnlistedError}
 use Rattle.gv_gpu.specs.Device.{Device, Loaded, with_loaded}
-use Rattle.gv_gpu.specs.Step.{Stepping, Stepped, operations, stands_of, is_privileged, fetched, settled, ran_after, stepped_by, stepped_with, command_step, front_step, has_ended, step_with, physical_step}
+use Rattle.gv_gpu.specs.Step.{Stepping, Stepped, operations, stands_at, runs_privileged, head_read, settled, retired, stepped_by, stepped_with, command_step, front_step, has_ended, step_with, physical_step}
 use Rattle.gv_gpu.specs.declared.step.Step.TheVariants.{Ran, Waits, Ended, Unlisted, Idle}
 use Rattle.gv_gpu.proofs.Effects.{rest, effect-stays}
 
@@ -28,32 +28,32 @@ step-front d engine l is more = ap (step_with d engine) is ∙ ap (by_end d engi
 
 -- what a step works on, when the front command has been read
 abbrev pub start : Device → ℕ → Loaded → Stepping
-start d engine l = record { device = d; engine = engine; context = l; strayed = (fetched d l).strayed }
+start d engine l = record { device = d; engine = engine; context = l; strayed = (head_read d l).strayed }
 
-pub front-unlisted : (d : Device) (engine : ℕ) (l : Loaded) (e : UnlistedError) → decoded (fetched d l).words ≡ Err e → front_step d engine l ≡ record { after = settled (start d engine l); answer = Unlisted }
+pub front-unlisted : (d : Device) (engine : ℕ) (l : Loaded) (e : UnlistedError) → decoded (head_read d l).words ≡ Err e → front_step d engine l ≡ record { after = settled (start d engine l); answer = Unlisted }
 unfolding front_step
 front-unlisted d engine l e is = ap (command_step (start d engine l)) is
 
-module _ (d : Device) (engine : ℕ) (l : Loaded) (ws : List ℕ) (dwords : ℕ) (is : decoded (fetched d l).words ≡ Ok (ws, dwords)) where
+module _ (d : Device) (engine : ℕ) (l : Loaded) (ws : List ℕ) (dwords : ℕ) (is : decoded (head_read d l).words ≡ Ok (ws, dwords)) where
   -- what the command does
   abbrev pub done : Effect Stepping
-  done = effect operations ws engine (is_privileged l.place) (start d engine l)
+  done = effect operations ws engine (runs_privileged l.place) (start d engine l)
 
   abbrev by_test : Bool → Stepped
   by_test b = cond b (stepped_by engine l ws dwords done.after done.raise) (record { after = settled (start d engine l); answer = Unlisted })
 
-  pub front-not_allowed : is_allowed ws (stands_of l.place) engine ≡ false → front_step d engine l ≡ record { after = settled (start d engine l); answer = Unlisted }
+  pub front-not_allowed : is_allowed ws (stands_at l.place) engine ≡ false → front_step d engine l ≡ record { after = settled (start d engine l); answer = Unlisted }
   unfolding front_step
   front-not_allowed denied = ap (command_step (start d engine l)) is ∙ ap by_test denied
 
-  allowed : is_allowed ws (stands_of l.place) engine ≡ true → front_step d engine l ≡ stepped_by engine l ws dwords done.after done.raise
+  allowed : is_allowed ws (stands_at l.place) engine ≡ true → front_step d engine l ≡ stepped_by engine l ws dwords done.after done.raise
   unfolding front_step
   allowed may = ap (command_step (start d engine l)) is ∙ ap by_test may
 
-  pub front-waits : is_allowed ws (stands_of l.place) engine ≡ true → done.raise ≡ None → front_step d engine l ≡ record { after = settled done.after; answer = Waits }
+  pub front-waits : is_allowed ws (stands_at l.place) engine ≡ true → done.raise ≡ None → front_step d engine l ≡ record { after = settled done.after; answer = Waits }
   front-waits may waits = allowed may ∙ ap (stepped_by engine l ws dwords done.after) waits
 
-  pub front-ran : (raise : ℕ) → is_allowed ws (stands_of l.place) engine ≡ true → done.raise ≡ Some raise → front_step d engine l ≡ record { after = ran_after (settled done.after) engine l ws dwords; answer = Ran ws raise }
+  pub front-ran : (raise : ℕ) → is_allowed ws (stands_at l.place) engine ≡ true → done.raise ≡ Some raise → front_step d engine l ≡ record { after = retired (settled done.after) engine l ws dwords; answer = Ran ws raise }
   front-ran raise may ran = allowed may ∙ ap (stepped_by engine l ws dwords done.after) ran
 
 -- ---- what stays
@@ -89,13 +89,13 @@ listed-keeps s ws dwords e false k = settled-keeps s
 command-keeps : (s : Stepping) (r : Result (List ℕ × ℕ) UnlistedError) → Keeps s.device (command_step s r).after
 command-keeps s (Err e) = settled-keeps s
 command-keeps s (Ok (ws, dwords)) =
-    let e = effect operations ws s.engine (is_privileged s.context.place) s in
-    listed-keeps s ws dwords e (is_allowed ws (stands_of s.context.place) s.engine)
-    (by_rest s.device e.after.device (effect-stays ws s.engine (is_privileged s.context.place) s).rest)
+    let e = effect operations ws s.engine (runs_privileged s.context.place) s in
+    listed-keeps s ws dwords e (is_allowed ws (stands_at s.context.place) s.engine)
+    (by_rest s.device e.after.device (effect-stays ws s.engine (runs_privileged s.context.place) s).rest)
 
 front-keeps : (d : Device) (engine : ℕ) (l : Loaded) → Keeps d (front_step d engine l).after
 unfolding front_step
-front-keeps d engine l = command-keeps (start d engine l) (decoded (fetched d l).words)
+front-keeps d engine l = command-keeps (start d engine l) (decoded (head_read d l).words)
 
 end-keeps : (d : Device) (engine : ℕ) (l : Loaded) (b : Bool) → Keeps d (by_end d engine l b).after
 unfolding by_end

@@ -3,11 +3,11 @@
 use Rattle.std.specs.Prelude.{ℕ, suc, zero, ◌+◌, ◌*◌, ◌/◌, ◌^◌, true, List, [], ◌∷◌, slice_index, Option, None, Some}
 use Rattle.gv_ctx.specs.Saved.{fields_of, saved_of}
 use Rattle.gv_gpu.specs.Device.{Device, Loaded, with_loaded}
-use Rattle.gv_gpu.specs.Physical.{image_of, operand_at, operand_stored}
+use Rattle.gv_gpu.specs.Physical.{image_address, operand_at, operand_stored}
 
 -- the global address of a dword of the image's second page
 abbrev pub state_at : ℕ → ℕ → ℕ
-state_at descriptor n = image_of descriptor + 4096 + 4 * n
+state_at descriptor n = image_address descriptor + 4096 + 4 * n
 
 abbrev pub state_dword : Device → ℕ → ℕ → ℕ
 state_dword d descriptor n = operand_at d 0 true (state_at descriptor n)
@@ -43,8 +43,8 @@ context_of d owner descriptor = record {
 abbrev pub loaded_after : Device → ℕ → ℕ → ℕ → Device
 loaded_after d engine owner descriptor = with_loaded d engine (Some (context_of d owner descriptor))
 
-unfoldable pub submitted : Device → ℕ → ℕ → ℕ → Device
-submitted d engine owner descriptor = loaded_after (context_saved d (d.loaded engine)) engine owner descriptor
+unfoldable pub context_submitted : Device → ℕ → ℕ → ℕ → Device
+context_submitted d engine owner descriptor = loaded_after (context_saved d (d.loaded engine)) engine owner descriptor
 
 -- with none loaded nothing changes
 abbrev pub stopped_with : Device → ℕ → Option Loaded → Device

@@ -73,12 +73,12 @@ abbrev pub with_global : Device → ℕ → ℕ → Device
 with_global d index entry = record d { global = put d.global index entry }
 
 -- a word of a page, as an engine writes it
-abbrev pub with_word : Device → ℕ → ℕ → ℕ → Device
-with_word d page index value = record d { words = put d.words page (slice_set (d.words page) index value) }
+abbrev pub with_page_word : Device → ℕ → ℕ → ℕ → Device
+with_page_word d page index value = record d { words = put d.words page (slice_set (d.words page) index value) }
 
 -- general register n of an engine
-abbrev pub with_general : Device → ℕ → ℕ → ℕ → Device
-with_general d engine n value = record d { general = put d.general engine (put (d.general engine) n value) }
+abbrev pub with_engine_general : Device → ℕ → ℕ → ℕ → Device
+with_engine_general d engine n value = record d { general = put d.general engine (put (d.general engine) n value) }
 
 -- the context that is loaded on an engine, or none
 abbrev pub with_loaded : Device → ℕ → Option Loaded → Device

@@ -6,7 +6,7 @@ use Rattle.gv_types.specs.Bits.{byte_of, with_byte}
 use Rattle.gv_types.specs.declared.ids.Label.{Label}
 use Rattle.gv_types.specs.Memory.{half_of, with_half}
 use Rattle.gv_ctx.specs.Descriptor.{descriptor_of}
-use Rattle.gv_gpu.specs.Device.{Device, Loaded, with_word}
+use Rattle.gv_gpu.specs.Device.{Device, Loaded, with_page_word}
 
 -- ---- entries
 
@@ -38,16 +38,16 @@ unfoldable pub leaf : Device → ℕ → ℕ → ℕ
 leaf d root at = entry_in d (first_table d root at) (at / 2 ^ 12 % 512)
 
 -- The entry that an address goes through at last. A global address from 2^32 on has none.
-abbrev pub entry_at : Device → ℕ → Bool → ℕ → ℕ
-entry_at d root true at = if nat_lt at (2 ^ 32) then d.global (at / 4096) else 0
-entry_at d root false at = leaf d root at
+abbrev pub physical_entry : Device → ℕ → Bool → ℕ → ℕ
+physical_entry d root true at = if nat_lt at (2 ^ 32) then d.global (at / 4096) else 0
+physical_entry d root false at = leaf d root at
 
 -- the page that an address reads, if any, and the page that it writes, which bit 1 of the entry allows
 unfoldable pub read_page : Device → ℕ → Bool → ℕ → Option ℕ
-read_page d root global at = page_of d (entry_at d root global at)
+read_page d root global at = page_of d (physical_entry d root global at)
 
 unfoldable pub write_page : Device → ℕ → Bool → ℕ → Option ℕ
-write_page d root global at = if entry_at d root global at / 2 % 2 == 1 then page_of d (entry_at d root global at) else None
+write_page d root global at = if physical_entry d root global at / 2 % 2 == 1 then page_of d (physical_entry d root global at) else None
 
 -- ---- reading and writing
 
@@ -58,7 +58,7 @@ word_in d (Some page) at = slice_index (d.words page) (at % 4096 / 8)
 
 abbrev pub word_stored : Device → Option ℕ → ℕ → ℕ → Device
 word_stored d None at word = d
-word_stored d (Some page) at word = with_word d page (at % 4096 / 8) word
+word_stored d (Some page) at word = with_page_word d page (at % 4096 / 8) word
 
 unfoldable pub byte_at : Device → ℕ → Bool → ℕ → ℕ
 byte_at d root global at = byte_of (word_in d (read_page d root global at) at) at
@@ -119,13 +119,13 @@ is_page None page = false
 is_page (Some n) page = n == page
 
 -- where the image begins, as a global address
-abbrev pub image_of : ℕ → ℕ
-image_of descriptor = (descriptor_of descriptor).page * 4096
+abbrev pub image_address : ℕ → ℕ
+image_address descriptor = (descriptor_of descriptor).page * 4096
 
 unfoldable pub is_own_image : Device → Loaded → ℕ → Bool
 is_own_image d l page =
-    is_page (read_page d l.root true (image_of l.descriptor)) page
-    || is_page (read_page d l.root true (image_of l.descriptor + 4096)) page
+    is_page (read_page d l.root true (image_address l.descriptor)) page
+    || is_page (read_page d l.root true (image_address l.descriptor + 4096)) page
 
 -- A write strays to another guest's page, and to a shadow page that isn't of the context's own image.
 abbrev pub written_strays : Device → Loaded → Option ℕ → Bool

@@ -1,6 +1,6 @@
 ghost use Rattle.std.specs.Prelude.{◌≡◌, ℕ, ◌<◌, ◌≤◌, IfOk, OnOk, OnErr, IsOk, IsSome, [], None, slice_index};
-ghost use Rattle.gv_gpu.specs.Device.{Device, counted, added, released, poked, with_global, with_general, with_spare, with_faults};
-ghost use Rattle.gv_gpu.specs.Context.{submitted, stopped};
+ghost use Rattle.gv_gpu.specs.Device.{Device, counted, added, released, poked, with_global, with_engine_general, with_spare, with_faults};
+ghost use Rattle.gv_gpu.specs.Context.{context_submitted, stopped};
 ghost use Rattle.gv_gpu.specs.Step.{physical_step};
 
 use crate::Step;
@@ -73,13 +73,13 @@ pub trait Gpu {
     fn set_general(&mut self, engine: EngineId, n: u8, value: u64)
         requires engine { engine.0 < 4 }
         requires register { n < 16 }
-        ensures { state self.new ≡ with_general (state self.old) engine.0 n value };
+        ensures { state self.new ≡ with_engine_general (state self.old) engine.0 n value };
 
     /// Saves the place of a loaded context into its image, and loads the context of the descriptor
     /// for its owner. After `GpuFailed` the count of faults has risen, and all else is as before.
     fn submit(&mut self, engine: EngineId, owner: GuestId, descriptor: u64) -> Result<(), GpuFailed>
         requires { engine.0 < 4 }
-        ensures ok { OnOk result (state self.new ≡ submitted (state self.old) engine.0 owner.0 descriptor) }
+        ensures ok { OnOk result (state self.new ≡ context_submitted (state self.old) engine.0 owner.0 descriptor) }
         ensures err { OnErr result (state self.new ≡ with_faults (state self.old) (state self.new).faults) }
         ensures cause { OnErr result (counted (state self.old).faults ≤ (state self.new).faults) };
 

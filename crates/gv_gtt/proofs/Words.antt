@@ -5,7 +5,7 @@ use Rattle.std.proofs.lemmas.List.{length-set, get_or-set_same, get_or-set_other
 use Rattle.gv_types.specs.Memory.{Memory, memory_write, with_value, with_word, with_half, word_of}
 use Rattle.gv_types.specs.declared.event.Width.{Width}
 use Rattle.gv_types.specs.declared.event.Width.TheVariants.{Four, Eight}
-use Rattle.gv_entry.specs.Tables.{words_of, has_bad_entry, is_guarded}
+use Rattle.gv_entry.specs.Tables.{frame_words, has_bad_entry, is_guarded}
 use Rattle.gv_gpu.specs.Device.{Device}
 use Rattle.gv_sppgtt.specs.Serving.{ChangedAt, roles_of, bit_if}
 use Rattle.gv_sppgtt.specs.State.{pages_of, is_table}
@@ -23,7 +23,7 @@ changed-word m number value frame index at_frame at_index low = record {
       (λ same.
       let place : f ≡ frame = same ∙ sym at_frame in
       let inside : number / 512 < length m = subst (λ n. n < length m) at_frame low in
-      subst (λ k. get_or (words_of (with_word m number value) k) i 0 ≡ get_or (words_of m k) i 0) (sym same)
+      subst (λ k. get_or (frame_words (with_word m number value) k) i 0 ≡ get_or (frame_words m k) i 0) (sym same)
       (ap (λ (ws : List ℕ). get_or ws i 0) (get_or-set_same m (number / 512) (set (get_or m (number / 512) []) (number % 512) value) [] inside)
       ∙ get_or-set_other (get_or m (number / 512) []) (number % 512) i value 0 (λ e. apart place (e ∙ sym at_index))))
       (λ other. ap (λ (ws : List ℕ). get_or ws i 0) (get_or-set_other m (number / 512) f (set (get_or m (number / 512) []) (number % 512) value) [] other))

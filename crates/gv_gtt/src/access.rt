@@ -1,6 +1,6 @@
 ghost use Rattle.std.specs.Prelude.{◌≡◌, ◌+◌, ◌*◌, ◌/◌, ◌%◌, ◌^◌, ◌<◌, ◌≤◌, false, None, length, IfSome, if◌then◌else◌};
 ghost use Rattle.gv_types.specs.Memory.{bytes_of, all_ones, memory_read};
-ghost use Rattle.gv_entry.specs.Global.{entry_of, with_entry};
+ghost use Rattle.gv_entry.specs.Global.{global_entry, with_entry};
 ghost use Rattle.gv_entry.specs.Ranges.{InParts, is_in, owns_page};
 ghost use Rattle.gv_entry.specs.Tables.{is_guarded};
 ghost use Rattle.gv_gpu.specs.Change.{ChangesOnly};
@@ -177,7 +177,7 @@ impl Gtt {
 
     /// The guest's entry of a page of the global table.
     pub fn read_entry(&self, page: u32) -> u64
-        ensures { result ≡ entry_of (ranges_of self.now) (entries_of self.now) page }
+        ensures { result ≡ global_entry (ranges_of self.now) (entries_of self.now) page }
     {
         self.table.entry(page)
     }

@@ -4,7 +4,7 @@ use Rattle.std.specs.Io.KnownBytes.{Appends}
 use Rattle.std.proofs.KnownBytes.{Appends-nil, Appends-trans}
 use Rattle.std.proofs.lemmas.List.{drop-drop, take-append-le, drop-append-le}
 use Rattle.gv_outside.proofs.Pieces.{front_more}
-use Rattle.gv_lines.specs.Outlet.{Got, in_sink, in_totals, Gets, Passes}
+use Rattle.gv_lines.specs.Outlet.{Delivery, in_sink, in_totals, Gets, Passes}
 use Rattle.gv_lines.specs.Summary.{totals_after, after_byte}
 use Rattle.gv_lines.specs.Writer.{PassesOn}
 use Rattle.gv_lines.specs.declared.totals.Totals.{Totals}
@@ -16,11 +16,11 @@ pub totals-more : (t : Totals) (xs ys : List ℕ) → totals_after t (xs ++ ys) 
 totals-more t [] ys = refl
 totals-more t (x ∷ xs) ys = totals-more (after_byte t x) xs ys
 
-pub gets-none : (a : Got) → Gets a a []
+pub gets-none : (a : Delivery) → Gets a a []
 gets-none (in_sink held) = Appends-nil held
 gets-none (in_totals totals held) = (refl, refl)
 
-pub gets-more : (a b c : Got) (xs ys : List ℕ) → Gets a b xs → Gets b c ys → Gets a c (xs ++ ys)
+pub gets-more : (a b c : Delivery) (xs ys : List ℕ) → Gets a b xs → Gets b c ys → Gets a c (xs ++ ys)
 gets-more (in_sink a) (in_sink b) (in_sink c) xs ys first second = Appends-trans a b c xs ys first second
 gets-more (in_sink a) (in_sink b) (in_totals t c) xs ys first second = absurd second
 gets-more (in_sink a) (in_totals s b) c xs ys first second = absurd first
@@ -31,11 +31,11 @@ gets-more (in_totals r a) (in_sink b) c xs ys first second = absurd first
 
 -- ---- what passes
 
-pub passes-none : (bytes : List ℕ) (a : Got) → Passes bytes bytes a a
+pub passes-none : (bytes : List ℕ) (a : Delivery) → Passes bytes bytes a a
 passes-none bytes a = record { count = 0; within = omega arith; written = gets-none a; rest = refl }
 
 -- more of what is held passes
-pub passes-step : (bytes held : List ℕ) (a b c : Got) (n : ℕ) → Passes bytes held a b → n ≤ length held → Gets b c (take n held) → Passes bytes (drop n held) a c
+pub passes-step : (bytes held : List ℕ) (a b c : Delivery) (n : ℕ) → Passes bytes held a b → n ≤ length held → Gets b c (take n held) → Passes bytes (drop n held) a c
 passes-step bytes held a b c n first few more =
     let m = first.count in
     let rest = first.rest in
@@ -48,7 +48,7 @@ passes-step bytes held a b c n first few more =
     }
 
 -- more bytes are held
-pub passes-more : (bytes held more : List ℕ) (a b : Got) → Passes bytes held a b → Passes (bytes ++ more) (held ++ more) a b
+pub passes-more : (bytes held more : List ℕ) (a b : Delivery) → Passes bytes held a b → Passes (bytes ++ more) (held ++ more) a b
 passes-more bytes held more a b first = record {
   count = first.count;
   within = omega (arith, first.within, length-append bytes more);
@@ -56,7 +56,7 @@ passes-more bytes held more a b first = record {
   rest = ap (λ l. l ++ more) first.rest ∙ sym (drop-append-le first.count bytes more first.within);
 }
 
-pub passes-trans : (x y z : List ℕ) (a b c : Got) → Passes x y a b → Passes y z b c → Passes x z a c
+pub passes-trans : (x y z : List ℕ) (a b c : Delivery) → Passes x y a b → Passes y z b c → Passes x z a c
 passes-trans x y z a b c first second = subst (λ l. Passes x l a c) (sym second.rest) (passes-step x y a b c second.count first second.within second.written)
 
 -- ---- the same over a sink

@@ -16,7 +16,7 @@ use Rattle.gv_fetch.specs.Fetch.{owns_pages, dwords, owns_dwords, batch_items, r
 use Rattle.gv_regs.specs.Table.{row_at}
 use Rattle.gv_private.specs.Inputs.{Input, event, turns}
 use Rattle.gv_private.specs.Device.{PrivateDevice, new_device, reset_engine}
-use Rattle.gv_private.specs.Turn.{JournalEntry}
+use Rattle.gv_private.specs.Turn.{RanCommand}
 use Rattle.gv_machine.specs.Course.{play}
 use Rattle.gv_machine.specs.Machine.{Machine, new_machine, whose, inputs_in, input_course, line_course, ran_all}
 use Rattle.gv_machine.specs.Report.{said_all}
@@ -119,7 +119,7 @@ turns_in_turn : said_all (play input_course both_at_work in_turn).came
 unfolding owns_pages dwords owns_dwords batch_items ring_items kind_of
 turns_in_turn = refl
 
-abbrev ran_for : ℕ → JournalEntry
+abbrev ran_for : ℕ → RanCommand
 ran_for g = record { engine = 1; guest = g; shape = 0 ∷ [] }
 
 commands_in_turn : ran_all (play input_course both_at_work in_turn).came ≡ ran_for 0 ∷ ran_for 1 ∷ ran_for 0 ∷ []

@@ -12,7 +12,7 @@ use Rattle.gv_private.specs.Inputs.{Input, event, turns}
 use Rattle.gv_machine.specs.Course.{Course, play}
 use Rattle.gv_machine.specs.Laws.{is_of_turns, names, names_event, InputsNameTheirGuest}
 use Rattle.gv_machine.specs.Machine.{Machine, Done, Receiver, device, rota, receiver, received, device_at, input_course, inputs_in}
-use Rattle.gv_machine.specs.Solo.{is_own, own_done, inputs_done, inputs_of}
+use Rattle.gv_machine.specs.Solo.{is_taken_by, own_done, inputs_done, inputs_of}
 use Rattle.gv_machine.proofs.Isolation.{machine, joined, whole, below}
 use Rattle.gv_machine.proofs.Named.{AreBelow, IsRun, run-script_of}
 use Rattle.gv_machine.proofs.OwnCourse.{IsWhole, AreNumbered, ReceivedBelow, goes, whole-input, below-input}
@@ -30,7 +30,7 @@ module _ (g : ℕ) where
 
   plain_append : (xs ys : List Done) → own_plain (xs ++ ys) ≡ own_plain xs ++ own_plain ys
   plain_append xs ys =
-      ap (λ (came : List Done). filter plain (inputs_done came)) (filter-append (λ (d : Done). is_own g d.whose) xs ys)
+      ap (λ (came : List Done). filter plain (inputs_done came)) (filter-append (λ (d : Done). is_taken_by g d.whose) xs ys)
       ∙ ap (filter plain) (map-append (λ (d : Done). d.input) (own_done g xs) (own_done g ys))
       ∙ filter-append plain (inputs_done (own_done g xs)) (inputs_done (own_done g ys))
 

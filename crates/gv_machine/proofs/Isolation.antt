@@ -16,7 +16,7 @@ use Rattle.gv_machine.specs.Course.{Course, play}
 use Rattle.gv_machine.specs.Laws.{EachGuestIsToldItsOwn, EqualGuestsAreToldTheSame}
 use Rattle.gv_machine.specs.Machine.{Machine, Done, new_machine, device_at, device_course, input_course, inputs_in}
 use Rattle.gv_machine.specs.Report.{said_all, memory_said, ending_said, course_of, script_said, report_of}
-use Rattle.gv_machine.specs.Solo.{solo, guests_of, frames_of, ranges_of, own_done, inputs_done, inputs_of, is_done}
+use Rattle.gv_machine.specs.Solo.{solo, guests_of, frames_of, ranges_of, own_done, inputs_done, inputs_of, is_done_ending}
 use Rattle.gv_machine.proofs.Joined.{devices_from, length-devices_from, device-from, length-played, lines-joined}
 use Rattle.gv_machine.proofs.Named.{AreBelow, IsRun, run-script_of, run-small, run-below}
 use Rattle.gv_machine.proofs.OwnCourse.{IsWhole, IsTold, seen, own-course, all-told}
@@ -95,15 +95,15 @@ module _ (script : Script) (run : IsRun false 0 script.lines) where
         ∙ ap (play device_course (device_at machine.devices g)) same_inputs
         ∙ ap (λ (p : PrivateDevice). play device_course p inputs) at_first
 
-    spoken : filter (speaks_of g) (script_said new_machine script) ≡ said_all (play device_course alone inputs).came ++ cond (is_done script.ending) (memory_said g (play device_course alone inputs).left.memory) []
+    spoken : filter (speaks_of g) (script_said new_machine script) ≡ said_all (play device_course alone inputs).came ++ cond (is_done_ending script.ending) (memory_said g (play device_course alone inputs).left.memory) []
     spoken =
         ap (filter (speaks_of g)) all_said
         ∙ filter-append (speaks_of g) (said_all all.came) (ending_said script.ending all.left)
         ∙ ap (λ (z : List ReportLine). z ++ filter (speaks_of g) (ending_said script.ending all.left)) (said-spoken g (length machine.devices) all.came told)
         ∙ ap (λ (z : List ReportLine). said_all (own_done g all.came) ++ z) (ending-spoken g script.ending all.left (subst (λ n. g < n) (sym same_length) there))
-        ∙ ap (λ (c : Course PrivateDevice Done). said_all c.came ++ cond (is_done script.ending) (memory_said g c.left.memory) []) by_itself
+        ∙ ap (λ (c : Course PrivateDevice Done). said_all c.came ++ cond (is_done_ending script.ending) (memory_said g c.left.memory) []) by_itself
 
-    pub private : lines_of_guest g (text_of (script_said new_machine script)) ≡ solo g (frames_of script.lines g) (ranges_of script.lines g) inputs (is_done script.ending)
+    pub private : lines_of_guest g (text_of (script_said new_machine script)) ≡ solo g (frames_of script.lines g) (ranges_of script.lines g) inputs (is_done_ending script.ending)
     unfolding solo
     private =
         let small : g < 8 = let most = few in omega arith in

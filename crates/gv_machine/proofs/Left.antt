@@ -7,7 +7,7 @@ use Rattle.gv_text.specs.Script.{Script, script_from, script_on, ends, onto_scri
 use Rattle.gv_text.specs.declared.ending.Ending.TheVariants.{Done as done, BadScript}
 use Rattle.gv_text.specs.declared.known.Known.{Known}
 use Rattle.gv_text.specs.declared.script_line.Line.{Line}
-use Rattle.gv_private.specs.Turn.{JournalEntry}
+use Rattle.gv_private.specs.Turn.{RanCommand}
 use Rattle.gv_machine.specs.Course.{Course, onto}
 use Rattle.gv_machine.specs.Machine.{Machine, Done, line_course, ran_in, ran_all}
 use Rattle.gv_machine.specs.Report.{said_of, said_all, course_of}
@@ -39,7 +39,7 @@ module _ (known : Known) (n : ℕ) (bytes : List ℕ) (rest : Known → Script) 
 
 -- What was done and the course c of what is left are the whole course. Its report stands behind the text `before`;
 -- so far the text is `now`, and these commands ran.
-pub record Left (all : Course Machine Done) (before : List ℕ) (c : Course Machine Done) (now : List ℕ) (ran : List JournalEntry) : Type 0 where
+pub record Left (all : Course Machine Done) (before : List ℕ) (c : Course Machine Done) (now : List ℕ) (ran : List RanCommand) : Type 0 where
   pub machine : c.left ≡ all.left
   pub report : now ++ text_of (said_all c.came) ≡ before ++ text_of (said_all all.came)
   pub journal : ran ++ ran_all c.came ≡ ran_all all.came
@@ -49,13 +49,13 @@ pub left-all : (all : Course Machine Done) (before : List ℕ) → Left all befo
 left-all all before = record { machine = refl; report = refl; journal = refl }
 
 -- a whole course was run: the machine that is left, the text now, and the commands that ran
-pub record Played (all : Course Machine Done) (before : List ℕ) (m : Machine) (now : List ℕ) (ran : List JournalEntry) : Type 0 where
+pub record Played (all : Course Machine Done) (before : List ℕ) (m : Machine) (now : List ℕ) (ran : List RanCommand) : Type 0 where
   pub machine : m ≡ all.left
   pub report : now ≡ before ++ text_of (said_all all.came)
   pub journal : ran ≡ ran_all all.came
 
 module _ (all : Course Machine Done) (before : List ℕ) where
-  module _ (first rest : Course Machine Done) (now : List ℕ) (ran : List JournalEntry) (kept : Left all before (onto first rest) now ran) where
+  module _ (first rest : Course Machine Done) (now : List ℕ) (ran : List RanCommand) (kept : Left all before (onto first rest) now ran) where
     ran_split : ran_all (first.came ++ rest.came) ≡ ran_all first.came ++ ran_all rest.came
     ran_split = flat_map-append ran_in first.came rest.came
 
@@ -69,14 +69,14 @@ module _ (all : Course Machine Done) (before : List ℕ) where
     }
 
     -- The first of what is left began: where a front of its commands ran, a front of all ran.
-    pub began : (some more : List JournalEntry) → some ++ more ≡ ran_all first.came → (ran ++ some) ++ (more ++ ran_all rest.came) ≡ ran_all all.came
+    pub began : (some more : List RanCommand) → some ++ more ≡ ran_all first.came → (ran ++ some) ++ (more ++ ran_all rest.came) ≡ ran_all all.came
     began some more front =
         append_assoc ran some (more ++ ran_all rest.came)
         ∙ ap (λ z. ran ++ z) (sym (append_assoc some more (ran_all rest.came)) ∙ ap (λ z. z ++ ran_all rest.came) front ∙ sym ran_split)
         ∙ kept.journal
 
   -- nothing is left
-  pub left-none : (c : Course Machine Done) (m : Machine) (now : List ℕ) (ran : List JournalEntry) → Left all before c now ran → c ≡ record { left = m; came = [] } → Played all before m now ran
+  pub left-none : (c : Course Machine Done) (m : Machine) (now : List ℕ) (ran : List RanCommand) → Left all before c now ran → c ≡ record { left = m; came = [] } → Played all before m now ran
   left-none c m now ran kept is = record {
     machine = sym (ap (λ (c : Course Machine Done). c.left) is) ∙ kept.machine;
     report = said_none now ∙ sym (ap (λ (c : Course Machine Done). now ++ text_of (said_all c.came)) is) ∙ kept.report;
@@ -90,14 +90,14 @@ played-none m now = record { machine = refl; report = said_none now; journal = r
 -- ---- the whole script
 
 -- what is left of a script is its ending too
-pub record LeftOf (start : Machine) (before : List ℕ) (all : Script) (m : Machine) (now : List ℕ) (ran : List JournalEntry) (left : Script) : Type 0 where
+pub record LeftOf (start : Machine) (before : List ℕ) (all : Script) (m : Machine) (now : List ℕ) (ran : List RanCommand) (left : Script) : Type 0 where
   pub ending : left.ending ≡ all.ending
   pub course : Left (course_of start all) before (course_of m left) now ran
 
 pub left-whole : (start : Machine) (before : List ℕ) (all : Script) → LeftOf start before all start before [] all
 left-whole start before all = record { ending = refl; course = left-all (course_of start all) before }
 
-module _ (start m : Machine) (before now : List ℕ) (ran : List JournalEntry) (all left : Script) (kept : LeftOf start before all m now ran left) where
+module _ (start m : Machine) (before now : List ℕ) (ran : List RanCommand) (all left : Script) (kept : LeftOf start before all m now ran left) where
   module _ (line : Line) (rest : Script) (is : left ≡ onto_script line rest) where
     first_left : Left (course_of start all) before (onto (line_course m line) (course_of (line_course m line).left rest)) now ran
     first_left = subst (λ (c : Course Machine Done). Left (course_of start all) before c now ran) (ap (course_of m) is) kept.course
@@ -109,5 +109,5 @@ module _ (start m : Machine) (before now : List ℕ) (ran : List JournalEntry) (
           (goes-on (course_of start all) before (line_course m line) (course_of (line_course m line).left rest) now ran first_left later told);
     }
 
-    pub line-began : (some more : List JournalEntry) → some ++ more ≡ ran_all (line_course m line).came → (ran ++ some) ++ (more ++ ran_all (course_of (line_course m line).left rest).came) ≡ ran_all (course_of start all).came
+    pub line-began : (some more : List RanCommand) → some ++ more ≡ ran_all (line_course m line).came → (ran ++ some) ++ (more ++ ran_all (course_of (line_course m line).left rest).came) ≡ ran_all (course_of start all).came
     line-began some more front = began (course_of start all) before (line_course m line) (course_of (line_course m line).left rest) now ran first_left some more front

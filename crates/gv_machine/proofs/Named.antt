@@ -11,7 +11,7 @@ use Rattle.gv_types.specs.declared.event.Event.TheVariants as events
 use Rattle.gv_types.specs.declared.event.Place.{Place}
 use Rattle.gv_types.specs.declared.event.Width.{Width}
 use Rattle.gv_types.specs.declared.ids.GuestId.{GuestId}
-use Rattle.gv_text.specs.Number.{◌>>=◌, check}
+use Rattle.gv_text.specs.Number.{◌>>=◌, provided}
 use Rattle.gv_text.specs.Script.{Script, want_of, nothing_known, accepts, known_after, is_end, ends, onto_script, script_on, script_from, script_in, script_of, script_limit, lines_of, counts_last, accepted}
 use Rattle.gv_text.specs.Grammar.{line_of}
 use Rattle.gv_text.specs.declared.ending.Ending.TheVariants.{Done}
@@ -107,13 +107,13 @@ room known (Guest g) small is =
     omega arith
 room known line small is = small
 
-by_test : (known : Known) (l line : Line) (b : Bool) → accepts known l ≡ b → check b l ≡ Some line → accepts known line ≡ true
+by_test : (known : Known) (l line : Line) (b : Bool) → accepts known l ≡ b → provided b l ≡ Some line → accepts known line ≡ true
 by_test known l line true holds is =
     let same : l ≡ line = cc in
     ap (accepts known) (sym same) ∙ holds
 by_test known l line false holds is = absurd (cc)
 
-accepted_is : (known : Known) (o : Option Line) (line : Line) → (o >>= λ line. check (accepts known line) line) ≡ Some line → accepts known line ≡ true
+accepted_is : (known : Known) (o : Option Line) (line : Line) → (o >>= λ line. provided (accepts known line) line) ≡ Some line → accepts known line ≡ true
 accepted_is known None line is = absurd (cc)
 accepted_is known (Some l) line is = by_test known l line (accepts known l) refl is
 

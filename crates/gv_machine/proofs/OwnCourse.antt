@@ -11,7 +11,7 @@ use Rattle.gv_private.specs.Device.{PrivateDevice, new_device}
 use Rattle.gv_private.specs.Inputs.{Input, event, turns, events_in}
 use Rattle.gv_machine.specs.Course.{Course, onto, play}
 use Rattle.gv_machine.specs.Machine.{Machine, Done, Receiver, device, rota, event_receiver, receiver, received, no_ranges, device_at, event_course, device_course, guest_course, switch_done, owner_after, input_course}
-use Rattle.gv_machine.specs.Solo.{is_own, own_done, inputs_done}
+use Rattle.gv_machine.specs.Solo.{is_taken_by, own_done, inputs_done}
 use Rattle.gv_machine.proofs.Courses.{play-append}
 use Rattle.gv_machine.proofs.Devices.{NamesGuest, is_of_switch, no-switch, device-same, device-names}
 use Rattle.gv_machine.proofs.Joined.{length-input}
@@ -153,7 +153,7 @@ module _ (g : ℕ) where
 
   module _ (p : PrivateDevice) (a b : Course Machine Done) (first : IsAlone p a) (second : IsAlone (device_at a.left.devices g) b) where
     own_both : own_done g (a.came ++ b.came) ≡ own_done g a.came ++ own_done g b.came
-    own_both = filter-append (λ (d : Done). is_own g d.whose) a.came b.came
+    own_both = filter-append (λ (d : Done). is_taken_by g d.whose) a.came b.came
 
     inputs_both : inputs_seen (onto a b) ≡ inputs_seen a ++ inputs_seen b
     inputs_both = ap inputs_done own_both ∙ map-append (λ (d : Done). d.input) (own_done g a.came) (own_done g b.came)

@@ -21,7 +21,7 @@ use Rattle.gv_private.specs.Device.{PrivateDevice}
 use Rattle.gv_private.specs.Inputs.{Input, event, turns}
 use Rattle.gv_machine.specs.Machine.{Machine, Happened, Done, device_at}
 use Rattle.gv_machine.specs.Report.{irq_said, failsafe_said, answer_said, alarms_said, told, turn_said, said_by, said_of, said_all, words_said, memory_said, memories_said, ending_said}
-use Rattle.gv_machine.specs.Solo.{is_done, is_own, own_done}
+use Rattle.gv_machine.specs.Solo.{is_done_ending, is_taken_by, own_done}
 use Rattle.gv_machine.proofs.Devices.{NamesGuest, is_switch, is_of_switch}
 use Rattle.gv_machine.proofs.OwnCourse.{IsTold, IsToldBy}
 
@@ -95,7 +95,7 @@ module _ (g : ℕ) where
       (each_speaks (λ (h : Happened). alarms_said h.reply) (λ h. alarms_speak h.reply) k came names) (turn_speaks engine k came names)
 
   -- no guest's own line tells of a switch
-  done_speaks : (n : ℕ) (d : Done) (o : Option ℕ) → IsToldBy n d o → spoken (said_of d) ≡ cond (is_own g o) (said_of d) []
+  done_speaks : (n : ℕ) (d : Done) (o : Option ℕ) → IsToldBy n d o → spoken (said_of d) ≡ cond (is_taken_by g o) (said_of d) []
   done_speaks n d (Some k) is = (input_speaks d.input k d.events is.taken is.names).all
   done_speaks n d None (engine, owner, small, there, is) = ap (λ (d : Done). spoken (said_of d)) is
 
@@ -109,8 +109,8 @@ module _ (g : ℕ) where
   said-spoken n (d ∷ came) told =
       spoken-append (said_of d) (said_all came)
       ∙ ap (λ (z : List ReportLine). z ++ spoken (said_all came)) (done_speaks n d d.whose told.0)
-      ∙ ap (λ (z : List ReportLine). cond (is_own g d.whose) (said_of d) [] ++ z) (said-spoken n came told.1)
-      ∙ by_owner d (own_done g came) (is_own g d.whose)
+      ∙ ap (λ (z : List ReportLine). cond (is_taken_by g d.whose) (said_of d) [] ++ z) (said-spoken n came told.1)
+      ∙ by_owner d (own_done g came) (is_taken_by g d.whose)
 
   word_spoken : (k : ℕ) (at word : ℕ) (b t : Bool) → eqb k g ≡ b → spoken (cond t [] (said.Memory (record { 0 = k }) at word ∷ [])) ≡ cond b (cond t [] (said.Memory (record { 0 = k }) at word ∷ [])) []
   word_spoken k at word b true is = neither b
@@ -154,7 +154,7 @@ module _ (g : ℕ) where
       let differ : g ≢ k = λ same. omega arith in
       memories_step k p m false (differs k differ (eqb k g) refl) ∙ memories_own (k + 1) m j (omega arith) (omega arith)
 
-  pub ending-spoken : (ending : Ending) (m : Machine) → g < length m.devices → spoken (ending_said ending m) ≡ cond (is_done ending) (memory_said g (device_at m.devices g).memory) []
+  pub ending-spoken : (ending : Ending) (m : Machine) → g < length m.devices → spoken (ending_said ending m) ≡ cond (is_done_ending ending) (memory_said g (device_at m.devices g).memory) []
   ending-spoken done m there =
       spoken-append (memories_said 0 m.devices) (said.Done ∷ [])
       ∙ append-nil (spoken (memories_said 0 m.devices))

@@ -8,7 +8,7 @@ use Rattle.gv_text.specs.declared.script_line.Line.{Line}
 use Rattle.gv_text.specs.declared.script_line.Line.TheVariants.{Guest}
 use Rattle.gv_private.specs.Device.{PrivateDevice}
 use Rattle.gv_private.specs.Inputs.{Input, event, turns, answer}
-use Rattle.gv_private.specs.Turn.{JournalEntry}
+use Rattle.gv_private.specs.Turn.{RanCommand}
 use Rattle.gv_machine.specs.Course.{play}
 use Rattle.gv_machine.specs.Laws.{TurnsAloneRun, is_turn, is_of_turns}
 use Rattle.gv_machine.specs.Machine.{Machine, Done, Receiver, device, rota, receiver, received, new_machine, device_at, device_course, input_course, inputs_in, line_course, ran_in, ran_all}
@@ -52,8 +52,8 @@ abbrev of_turns : List Done → List Done
 of_turns came = filter (λ (d : Done). is_of_turns d.input) came
 
 by_kind : (d : Done) (came : List Done) (b : Bool) → is_of_turns d.input ≡ b → (is_of_turns d.input ≡ false → ran_in d ≡ []) → ran_all came ≡ ran_all (of_turns came) → ran_in d ++ ran_all came ≡ ran_all (cond b (d ∷ of_turns came) (of_turns came))
-by_kind d came true is quiet more = ap (λ (z : List JournalEntry). ran_in d ++ z) more
-by_kind d came false is quiet more = ap (λ (z : List JournalEntry). z ++ ran_all came) (quiet is) ∙ more
+by_kind d came true is quiet more = ap (λ (z : List RanCommand). ran_in d ++ z) more
+by_kind d came false is quiet more = ap (λ (z : List RanCommand). z ++ ran_all came) (quiet is) ∙ more
 
 turns_ran : (came : List Done) → RanByTurns came → ran_all came ≡ ran_all (of_turns came)
 turns_ran [] quiet = refl

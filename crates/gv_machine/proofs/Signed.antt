@@ -15,15 +15,15 @@ use Rattle.gv_private.specs.Device.{PrivateDevice, Working}
 use Rattle.gv_private.specs.Inputs.{Input, answer, events_in}
 use Rattle.gv_private.specs.Load.{loaded}
 use Rattle.gv_private.specs.Space.{PrivateSpace}
-use Rattle.gv_private.specs.Turn.{JournalEntry, Turned, turned, turned_by, next_by, load_by, command_by, run_by, front_words, front_effect}
+use Rattle.gv_private.specs.Turn.{RanCommand, Turned, turned, turned_by, next_by, load_by, command_by, run_by, front_words, front_effect}
 use Rattle.gv_private.proofs.Stays.{guest_stays}
 use Rattle.gv_machine.specs.Course.{play}
 use Rattle.gv_machine.specs.Laws.{IsSigned, CommandsAreSigned}
 use Rattle.gv_machine.specs.Machine.{Machine, Done, Receiver, device, rota, receiver, received, new_machine, device_at, event_course, input_course, inputs_in, line_course, ran_of}
 
 -- these entries are guest n's
-abbrev AreOf : ℕ → List JournalEntry → Type 0
-AreOf n ran = AllByRecursion (λ (entry : JournalEntry). Some n ≡ Some entry.guest) ran
+abbrev AreOf : ℕ → List RanCommand → Type 0
+AreOf n ran = AllByRecursion (λ (entry : RanCommand). Some n ≡ Some entry.guest) ran
 
 -- ---- a turn
 
@@ -66,7 +66,7 @@ answer_signed : (p : PrivateDevice) (one : Event) → AreOf p.number (answer p o
 answer_signed p (Turn engine) = turn_signed p engine.0
 answer_signed p one = tt
 
-all_append : (n : ℕ) (xs ys : List JournalEntry) → AreOf n xs → AreOf n ys → AreOf n (xs ++ ys)
+all_append : (n : ℕ) (xs ys : List RanCommand) → AreOf n xs → AreOf n ys → AreOf n (xs ++ ys)
 all_append n [] ys first second = second
 all_append n (x ∷ xs) ys first second = (first.0, all_append n xs ys first.1 second)
 

@@ -8,7 +8,7 @@ use Rattle.gv_types.specs.declared.event.Place.TheVariants.{Registers}
 use Rattle.gv_types.specs.declared.event.Width.{Width}
 use Rattle.gv_types.specs.declared.event.Width.TheVariants.{Four}
 use Rattle.gv_types.specs.declared.ids.GuestId.{GuestId}
-use Rattle.gv_cmd.specs.Effect.{base_of}
+use Rattle.gv_types.specs.Engines.{register_base}
 use Rattle.gv_private.specs.Inputs.{Input, event}
 use Rattle.gv_machine.specs.Course.{onto, play}
 use Rattle.gv_machine.specs.Machine.{Machine, input_course, writes_of, port_writes}
@@ -42,7 +42,7 @@ module _ (guest : GuestId) (engine : ℕ) (values : List ℕ) (i : ℕ) (h : i <
   port_rest = port_writes guest engine (drop (i + 1) values)
 
   abbrev port_write : Input
-  port_write = event (Write guest Registers Four (base_of engine + 0x230) (get_or values i 0))
+  port_write = event (Write guest Registers Four (register_base engine + 0x230) (get_or values i 0))
 
   port_step : port_left ≡ port_write ∷ port_rest
   port_step = at_drop_more (port_writes guest engine) values i 0 h

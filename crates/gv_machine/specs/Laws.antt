@@ -11,11 +11,11 @@ use Rattle.gv_text.specs.declared.script_line.Line.{Line}
 use Rattle.gv_private.specs.Device.{PrivateDevice}
 use Rattle.gv_private.specs.Inputs.{Input, event, turns, Told, told}
 use Rattle.gv_private.specs.Laws.{SameGuest}
-use Rattle.gv_private.specs.Turn.{JournalEntry}
+use Rattle.gv_private.specs.Turn.{RanCommand}
 use Rattle.gv_machine.specs.Course.{Course, play}
 use Rattle.gv_machine.specs.Machine.{Machine, new_machine, Happened, Done, device, device_at, event_course, receiver, whose, work_on, owner_after, input_course, inputs_in, line_course, ran_of, ran_in, ran_all}
 use Rattle.gv_machine.specs.Report.{report_of, machine_of, commands_in, course_of}
-use Rattle.gv_machine.specs.Solo.{solo, guests_of, frames_of, ranges_of, inputs_of, is_done}
+use Rattle.gv_machine.specs.Solo.{solo, guests_of, frames_of, ranges_of, inputs_of, is_done_ending}
 
 -- ---- what guests are told
 
@@ -24,7 +24,7 @@ use Rattle.gv_machine.specs.Solo.{solo, guests_of, frames_of, ranges_of, inputs_
 abbrev pub IsPrivate : List ℕ → List ℕ → Type 0
 IsPrivate source text =
     (g : ℕ) → g < length (guests_of (script_of source).lines) →
-    lines_of_guest g text ≡ solo g (frames_of (script_of source).lines g) (ranges_of (script_of source).lines g) (inputs_of g (script_of source).lines) (is_done (script_of source).ending)
+    lines_of_guest g text ≡ solo g (frames_of (script_of source).lines g) (ranges_of (script_of source).lines g) (inputs_of g (script_of source).lines) (is_done_ending (script_of source).ending)
 
 abbrev pub EachGuestIsToldItsOwn : Type 0
 EachGuestIsToldItsOwn = (source : List ℕ) → IsPrivate source (report_of source)
@@ -37,7 +37,7 @@ pub record LooksAlike (g : ℕ) (a b : List ℕ) : Type 0 where
   pub frames : frames_of (script_of a).lines g ≡ frames_of (script_of b).lines g
   pub ranges : ranges_of (script_of a).lines g ≡ ranges_of (script_of b).lines g
   pub inputs : inputs_of g (script_of a).lines ≡ inputs_of g (script_of b).lines
-  pub done : is_done (script_of a).ending ≡ is_done (script_of b).ending
+  pub done : is_done_ending (script_of a).ending ≡ is_done_ending (script_of b).ending
 
 -- whatever other guests do, the guest is told the same
 abbrev pub EqualGuestsAreToldTheSame : Type 0
@@ -101,7 +101,7 @@ TurnsAloneRun = (source : List ℕ) → commands_in source ≡ ran_all (filter (
 
 -- each command of an input is of the guest whose device took the input
 abbrev pub IsSigned : Done → Type 0
-IsSigned d = AllByRecursion (λ (entry : JournalEntry). d.whose ≡ Some entry.guest) (ran_in d)
+IsSigned d = AllByRecursion (λ (entry : RanCommand). d.whose ≡ Some entry.guest) (ran_in d)
 
 -- Every command stands with the guest whose device ran it.
 abbrev pub CommandsAreSigned : Type 0

@@ -16,14 +16,14 @@ use Rattle.gv_types.specs.declared.reply.Answer.TheVariants as answers
 use Rattle.gv_types.specs.declared.reply.Reply.{Reply}
 use Rattle.gv_balloon.specs.Shares.{next_ranges}
 use Rattle.gv_balloon.specs.declared.given.Given.{Given}
-use Rattle.gv_cmd.specs.Effect.{base_of}
+use Rattle.gv_types.specs.Engines.{register_base}
 use Rattle.gv_sched.specs.Rota.{next_owner}
 use Rattle.gv_text.specs.Script.{want_of}
 use Rattle.gv_text.specs.declared.script_line.Line.{Line}
 use Rattle.gv_text.specs.declared.script_line.Line.TheVariants.{Guest, Read, Write, Elsp, Turn, Switch, Move, Reset}
 use Rattle.gv_private.specs.Device.{PrivateDevice, new_device}
 use Rattle.gv_private.specs.Inputs.{Answered, Input, event, turns, answer, events_in}
-use Rattle.gv_private.specs.Turn.{JournalEntry}
+use Rattle.gv_private.specs.Turn.{RanCommand}
 use Rattle.gv_private.specs.Work.{has_work}
 use Rattle.gv_machine.specs.Course.{Course, play}
 
@@ -32,7 +32,7 @@ use Rattle.gv_machine.specs.Course.{Course, play}
 -- what came of an event: the reply, and the commands that ran
 pub record Happened : Type 0 where
   pub reply : Reply
-  pub ran : List JournalEntry
+  pub ran : List RanCommand
 
 -- What came of an input, event by event, and whose device took it. No guest's takes the switch of an engine.
 pub record Done : Type 0 where
@@ -147,7 +147,7 @@ writes_of guest place width at (value ∷ values) = event (events.Write guest pl
 
 -- one write of a dword for each value, all of them to the engine's submission port (ELSP)
 abbrev pub port_writes : GuestId → ℕ → List ℕ → List Input
-port_writes guest engine values = map (λ value. event (events.Write guest Registers Four (base_of engine + 0x230) value)) values
+port_writes guest engine values = map (λ value. event (events.Write guest Registers Four (register_base engine + 0x230) value)) values
 
 -- high and low half of the second element's descriptor, and then of the first one's
 abbrev pub port_values : ℕ → ℕ → List ℕ
@@ -180,11 +180,11 @@ line_course m (Guest g) = record {
 line_course m line = play input_course m (inputs_in line)
 
 -- the commands that ran
-abbrev pub ran_of : List Happened → List JournalEntry
+abbrev pub ran_of : List Happened → List RanCommand
 ran_of came = flat_map (λ (h : Happened). h.ran) came
 
-abbrev pub ran_in : Done → List JournalEntry
+abbrev pub ran_in : Done → List RanCommand
 ran_in done = ran_of done.events
 
-abbrev pub ran_all : List Done → List JournalEntry
+abbrev pub ran_all : List Done → List RanCommand
 ran_all came = flat_map ran_in came

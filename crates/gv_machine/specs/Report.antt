@@ -13,7 +13,7 @@ use Rattle.gv_types.specs.declared.ids.GuestId.{GuestId}
 use Rattle.gv_types.specs.declared.reply.Reply.{Reply}
 use Rattle.gv_private.specs.Device.{PrivateDevice}
 use Rattle.gv_private.specs.Inputs.{Input, event, turns}
-use Rattle.gv_private.specs.Turn.{JournalEntry}
+use Rattle.gv_private.specs.Turn.{RanCommand}
 use Rattle.gv_text.specs.Report.{text_of}
 use Rattle.gv_text.specs.Script.{Script, script_of}
 use Rattle.gv_text.specs.declared.ending.Ending.{Ending}
@@ -120,5 +120,5 @@ unfoldable pub machine_of : List ℕ → Machine
 machine_of source = (course_of new_machine (script_of source)).left
 
 -- the commands that the devices ran, in order
-unfoldable pub commands_in : List ℕ → List JournalEntry
+unfoldable pub commands_in : List ℕ → List RanCommand
 commands_in source = ran_all (course_of new_machine (script_of source)).came

@@ -40,13 +40,13 @@ ranges_of lines g = slice_index_or (ranges_from nothing_given (map want_of (gues
 
 -- ---- one guest's inputs
 
-abbrev pub is_own : ℕ → Option ℕ → Bool
-is_own g None = false
-is_own g (Some owner) = owner == g
+abbrev pub is_taken_by : ℕ → Option ℕ → Bool
+is_taken_by g None = false
+is_taken_by g (Some owner) = owner == g
 
 -- of what came, what a guest's device took
 abbrev pub own_done : ℕ → List Done → List Done
-own_done g came = filter (λ (d : Done). is_own g d.whose) came
+own_done g came = filter (λ (d : Done). is_taken_by g d.whose) came
 
 abbrev pub inputs_done : List Done → List Input
 inputs_done came = map (λ (d : Done). d.input) came
@@ -55,6 +55,6 @@ inputs_done came = map (λ (d : Done). d.input) came
 abbrev pub inputs_of : ℕ → List Line → List Input
 inputs_of g lines = inputs_done (own_done g (play line_course new_machine lines).came)
 
-abbrev pub is_done : Ending → Bool
-is_done endings.Done = true
-is_done ending = false
+abbrev pub is_done_ending : Ending → Bool
+is_done_ending endings.Done = true
+is_done_ending ending = false

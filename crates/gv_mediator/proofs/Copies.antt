@@ -1,7 +1,7 @@
 -- What an event leaves of the copies that all guests' elements at work run from.
 use Rattle.std.proofs.Common.{◌≡◌, ◌≢◌, ℕ, Bool, Option, None, List, length, set, refl, subst}
 use Rattle.gv_gpu.specs.Device.{Device}
-use Rattle.gv_private.specs.Turn.{JournalEntry}
+use Rattle.gv_private.specs.Turn.{RanCommand}
 use Rattle.gv_vgpu.specs.Changes.{ChangesOwn, journalled}
 use Rattle.gv_vgpu.specs.Copies.{CopiesStay, NoneComes}
 use Rattle.gv_vgpu.specs.Standing.{Holds}
@@ -23,7 +23,7 @@ AllStay d e before after = (k : ℕ) (v w : Vgpu) → IsAt before k v → IsAt a
 
 -- ---- a call of one guest
 
-module _ (d e : Device) (before after : ℕ → Option ℕ) (engines : ℕ → Bool) (guests : List Vgpu) (g : ℕ) (old new : Vgpu) (here : IsAt guests g old) (ties : Ties d before guests) (ran : List JournalEntry)
+module _ (d e : Device) (before after : ℕ → Option ℕ) (engines : ℕ → Bool) (guests : List Vgpu) (g : ℕ) (old new : Vgpu) (here : IsAt guests g old) (ties : Ties d before guests) (ran : List RanCommand)
     (holds : Holds e new (owns after g)) (changes : ChangesOwn engines (journalled d ran) e old new) (owners : OwnersChange engines before after g (length guests)) (idle : (engine : ℕ) → after engine ≡ None → e.loaded engine ≡ None) where
   -- no element of another guest's came
   others-come : (k : ℕ) (x : Vgpu) → IsAt guests k x → k ≢ g → NoneComes d e x x

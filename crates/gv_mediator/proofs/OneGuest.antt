@@ -18,7 +18,7 @@ use Rattle.gv_gpu.proofs.Seen.{global-others}
 use Rattle.gv_gtt.specs.Gtt.{frames_of, number_of, own_pages, ranges_of, HasRoomFor}
 use Rattle.gv_machine.specs.Machine.{no_ranges}
 use Rattle.gv_private.specs.Device.{PrivateDevice, new_device}
-use Rattle.gv_private.specs.Turn.{JournalEntry}
+use Rattle.gv_private.specs.Turn.{RanCommand}
 use Rattle.gv_sggtt.specs.Mirror.{IsAbsent}
 use Rattle.gv_vgpu.specs.Changes.{ChangesOwn, journalled, own_live}
 use Rattle.gv_vgpu.specs.Laws.{DeviceStands, DeviceStays, DevicesAreSmall, WindowsAreSmall}
@@ -84,7 +84,7 @@ not-owned false b own free = refl
 not-owned true b own free = let not = free refl in cc
 
 module _ (stands : DeviceStands) (stays : DeviceStays) (small : DevicesAreSmall) (windows : WindowsAreSmall)
-    (d e : Device) (before after : ℕ → Option ℕ) (engines : ℕ → Bool) (guests : List Vgpu) (g : ℕ) (old new : Vgpu) (here : IsAt guests g old) (ties : Ties d before guests) (ran : List JournalEntry)
+    (d e : Device) (before after : ℕ → Option ℕ) (engines : ℕ → Bool) (guests : List Vgpu) (g : ℕ) (old new : Vgpu) (here : IsAt guests g old) (ties : Ties d before guests) (ran : List RanCommand)
     (holds : Holds e new (owns after g)) (changes : ChangesOwn engines (journalled d ran) e old new) (owners : OwnersChange engines before after g (length guests)) (idle : (engine : ℕ) → after engine ≡ None → e.loaded engine ≡ None) where
   there : g < length guests
   there = here.0
@@ -286,7 +286,7 @@ module _ (stands : DeviceStands) (stays : DeviceStays) (small : DevicesAreSmall)
 
 -- ---- a call that keeps owners
 
-module _ (d e : Device) (owners : ℕ → Option ℕ) (guests : List Vgpu) (g : ℕ) (old new : Vgpu) (ties : Ties d owners guests) (ran : List JournalEntry) (changes : ChangesOwn (owns owners g) (journalled d ran) e old new) where
+module _ (d e : Device) (owners : ℕ → Option ℕ) (guests : List Vgpu) (g : ℕ) (old new : Vgpu) (ties : Ties d owners guests) (ran : List RanCommand) (changes : ChangesOwn (owns owners g) (journalled d ran) e old new) where
   pub owners-stay : OwnersChange (owns owners g) owners owners g (length guests)
   owners-stay = record { free = λ k differ. owners-disjoint owners g k (λ is. differ (sym is)); same = λ k differ. refl; there = ties.there }
 

@@ -8,16 +8,16 @@ use Rattle.gv_types.specs.declared.event.Event.TheVariants.{Read, Write, Turn, S
 use Rattle.gv_types.specs.declared.reply.Reply.{Reply}
 use Rattle.gv_types.specs.declared.reply.Stop.{Stop}
 use Rattle.gv_gpu.specs.Change.{Ran}
-use Rattle.gv_gpu.specs.Device.{Device, JournalEntry as Entry}
+use Rattle.gv_gpu.specs.Device.{Device, JournalEntry}
 use Rattle.gv_gtt.specs.Gtt.{frames_of, number_of, own_pages}
 use Rattle.gv_machine.specs.Course.{Course}
 use Rattle.gv_machine.specs.Machine.{Machine, Receiver, Happened, device, rota, device_at, event_receiver, guest_in, happened}
 use Rattle.gv_private.specs.Device.{PrivateDevice}
 use Rattle.gv_private.specs.Inputs.{Answered, answer}
-use Rattle.gv_private.specs.Turn.{JournalEntry}
+use Rattle.gv_private.specs.Turn.{RanCommand}
 use Rattle.gv_sched.specs.Rota.{owner_of}
 use Rattle.gv_vgpu.specs.Access.{IsAccess, Replies}
-use Rattle.gv_vgpu.specs.Changes.{Stops, entry_of}
+use Rattle.gv_vgpu.specs.Changes.{Stops, journal_entry}
 use Rattle.gv_vgpu.specs.Vgpu.{private_of}
 use Rattle.gv_vgpu.specs.Standing.{HasRoomToLoad}
 use Rattle.gv_vgpu.specs.declared.vgpu.Vgpu.{Vgpu}
@@ -133,7 +133,7 @@ module _ (d : Device) (m : Mediator) (tied : Tied d m) (one : Event) (k : ℕ) (
           ∙ ap (λ (a : Answered). a.reply ∷ []) answer-same
           ∙ ap (λ (r : Reply). r ∷ []) replies.reply_is
 
-      abbrev ran : List JournalEntry
+      abbrev ran : List RanCommand
       ran = (answer (private_of d old (owns (owners_in m.rota) k)) one).ran
 
       owners : OwnersChange (owns (owners_in m.rota) k) (owners_in m.rota) (owners_in m.rota) k (length guests)
@@ -158,15 +158,15 @@ module _ (d : Device) (m : Mediator) (tied : Tied d m) (one : Event) (k : ℕ) (
       pub copies-then : AllStay d e guests (set guests k new)
       copies-then = all-stay d e (owners_in m.rota) (owners_in m.rota) (owns (owners_in m.rota) k) guests k old new here tied.ties ran replies.keeps.holds replies.keeps.changes owners idle replies.keeps.copies
 
-      entries-same : map entry_of (answer (private_of d old (owns (owners_in m.rota) k)) one).ran ≡ entries_ran (event_done (machine_of d m) one).came
-      entries-same = ap (λ (a : Answered). map entry_of a.ran) (sym answer-same) ∙ one-ran ∙ ap (λ (c : Course Machine Happened). entries_ran c.came) (sym is-received)
+      entries-same : map journal_entry (answer (private_of d old (owns (owners_in m.rota) k)) one).ran ≡ entries_ran (event_done (machine_of d m) one).came
+      entries-same = ap (λ (a : Answered). map journal_entry a.ran) (sym answer-same) ∙ one-ran ∙ ap (λ (c : Course Machine Happened). entries_ran c.came) (sym is-received)
         where
-          one-ran : map entry_of (answer (device_at (devices_in d (owners_in m.rota) guests) k) one).ran ≡ entries_ran (happened (answer (device_at (devices_in d (owners_in m.rota) guests) k) one) ∷ [])
-          one-ran = ap (map entry_of) (sym (append-nil (answer (device_at (devices_in d (owners_in m.rota) guests) k) one).ran))
+          one-ran : map journal_entry (answer (device_at (devices_in d (owners_in m.rota) guests) k) one).ran ≡ entries_ran (happened (answer (device_at (devices_in d (owners_in m.rota) guests) k) one) ∷ [])
+          one-ran = ap (map journal_entry) (sym (append-nil (answer (device_at (devices_in d (owners_in m.rota) guests) k) one).ran))
 
       pub ran-then : Ran d e (entries_ran (event_done (machine_of d m) one).came)
       ran-then = record {
-        journal = ap (λ (x : Device). x.journal) replies.keeps.changes.outside ∙ ap (λ (ran : List Entry). d.journal ++ ran) entries-same;
+        journal = ap (λ (x : Device). x.journal) replies.keeps.changes.outside ∙ ap (λ (ran : List JournalEntry). d.journal ++ ran) entries-same;
         strays = ap (λ (x : Device). x.strays) replies.keeps.changes.outside;
       }
 

@@ -6,7 +6,7 @@ use Rattle.gv_gpu.specs.Device.{JournalEntry}
 use Rattle.gv_machine.specs.Course.{Course}
 use Rattle.gv_machine.specs.Machine.{Machine, Receiver, Happened, device, rota, device_at, event_receiver, happened, owner_told, owner_after, switch_course, ran_of}
 use Rattle.gv_vgpu.specs.Access.{IsAccess}
-use Rattle.gv_vgpu.specs.Changes.{entry_of}
+use Rattle.gv_vgpu.specs.Changes.{journal_entry}
 use Rattle.gv_private.specs.Inputs.{answer}
 
 -- ---- what is an event
@@ -46,4 +46,4 @@ event_done m one = received_by m one (event_receiver m.owners one)
 
 -- the commands that ran, as the shared device's journal has them
 abbrev pub entries_ran : List Happened → List JournalEntry
-entries_ran came = map entry_of (ran_of came)
+entries_ran came = map journal_entry (ran_of came)

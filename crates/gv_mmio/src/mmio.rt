@@ -2,7 +2,7 @@ ghost use Rattle.std.specs.Prelude.{◌≡◌, ℕ, ◌+◌, ◌^◌, ◌<◌, �
 ghost use Rattle.gv_entry.specs.Ranges.{InParts};
 ghost use Rattle.gv_csb.specs.Slots.{completed, completion_events, current_of, pointer_written, submission_answer, submitted};
 ghost use Rattle.gv_csb.specs.Status.{in_order};
-ghost use Rattle.gv_cmd.specs.Effect.{base_of};
+ghost use Rattle.gv_types.specs.Engines.{register_base};
 ghost use Rattle.gv_regs.specs.Registers.{map_of};
 ghost use Rattle.gv_private.specs.Device.{PrivateDevice, with_slots};
 ghost use Rattle.gv_private.specs.Registers.{status_read, is_named, one_registers_reset, engines_are_reset};
@@ -44,7 +44,7 @@ pub enum Wrote {
 // The offset of the register HWS_PGA of an engine.
 fn status_register(engine: EngineId) -> u32
     requires { engine.0 < 4 }
-    ensures { result ≡ base_of engine.0 + 0x80 }
+    ensures { result ≡ register_base engine.0 + 0x80 }
 {
     match engine {
         EngineId::RCS => 0x2080,

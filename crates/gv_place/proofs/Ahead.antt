@@ -7,10 +7,10 @@ use Rattle.gv_cmd.specs.Command.{IsCommand}
 use Rattle.gv_cmd.specs.declared.stands.Stands.{Stands as StandsIn}
 use Rattle.gv_cmd.specs.declared.stands.Stands.TheVariants.{Ring, Privileged, Second}
 use Rattle.gv_gpu.specs.Device.{Device, Loaded}
-use Rattle.gv_gpu.specs.Step.{Fetched as FetchedWords, fetched_from, fetched, front_by, address_of, is_global_by, past_by, past}
+use Rattle.gv_gpu.specs.Step.{HeadRead, head_read_from, head_read, active_head_by, batch_address, is_global_by, advanced_by, advanced}
 use Rattle.gv_fetch.specs.Items.{Items, none, command, batch, MayAllStand}
 use Rattle.gv_scan.specs.Layout.{Layout, Begins, RingAt, BatchAt}
-use Rattle.gv_fetch.specs.Left.{Level, Fetched, At, Left, words_of, started, started_by, behind, is_none, is_done_by, privileged_by, front_by as own_front_by, past_by as own_past_by, past as own_past, LevelMayStand, IsLeft, is_done, is_privileged, front}
+use Rattle.gv_fetch.specs.Left.{Level, Fetched, At, Left, words_of, started, started_by, behind, is_none, is_done_by, privileged_by, front_by, past_by, past, LevelMayStand, IsLeft, is_done, is_privileged, front}
 use Rattle.gv_sring.specs.Copy.{Copied}
 use Rattle.gv_place.specs.Place.{LevelAt, Follows, StandsFor}
 use Rattle.gv_place.proofs.Reading.{ends-within, begins-past}
@@ -29,7 +29,7 @@ module _ (engine : ℕ) where
   some-second (batch ws items more) may = refl
 
 -- What the engine reads for the front item of a level, and where that level stands behind it
-pub record Read (p : Layout) (got : FetchedWords) (items : Items) (Past : ℕ → Type 0) : Type 0 where
+pub record Read (p : Layout) (got : HeadRead) (items : Items) (Past : ℕ → Type 0) : Type 0 where
   pub c : List ℕ
   pub words : got.words ≡ c
   pub strayed : got.strayed ≡ false
@@ -47,7 +47,7 @@ module _ (d : Device) (image : ℕ) (p : Layout) (l : Loaded) (engine : ℕ) (co
   moved-base at rest b = record { before = b.before; split = b.split; count = start-at at (4 * length (concat b.before)) b.count }
 
   pub ring-read : (at : ℕ) (items : Items) → is_none items ≡ false → MayAllStand Ring engine items → RingAt p at items
-      → Read p (fetched_from d l true (l.ring_start + at)) items (λ n. RingAt p ((at + 4 * n) % 2 ^ 32) (behind items))
+      → Read p (head_read_from d l true (l.ring_start + at)) items (λ n. RingAt p ((at + 4 * n) % 2 ^ 32) (behind items))
   ring-read at items some may r =
       let f = front-of p copied.base_aligned Ring engine 0 p.ring at [] items r.rest some r.begins r.copies may in
       let begins = moved-base at (f.c ∷ f.rest) f.begins in
@@ -69,7 +69,7 @@ module _ (d : Device) (image : ℕ) (p : Layout) (l : Loaded) (engine : ℕ) (co
   read-at b live = cond live (b.at % 2 ^ 48) (min b.at (2 ^ 32))
 
   pub batch-read : (stands : StandsIn) (b : Batch) (items : Items) → b.live ≡ false → is_none items ≡ false → MayAllStand stands engine items → BatchAt p.base p.batches b.at items
-      → Read p (fetched_from d l (not b.live) (address_of b)) items (λ n. BatchAt p.base p.batches ((b.at + 4 * n) % 2 ^ 48) (behind items))
+      → Read p (head_read_from d l (not b.live) (batch_address b)) items (λ n. BatchAt p.base p.batches ((b.at + 4 * n) % 2 ^ 48) (behind items))
   unfolding read-at
   batch-read stands b items dead some may r =
       let f = front-of p copied.base_aligned stands engine p.base p.batches b.at r.behind items r.rest some r.begins r.copies may in
@@ -79,11 +79,11 @@ module _ (d : Device) (image : ℕ) (p : Layout) (l : Loaded) (engine : ℕ) (co
       let near : min b.at (2 ^ 32) ≡ b.at = omega arith in
       record {
         c = f.c;
-        words = ap (λ v. (fetched_from d l (not v) (read-at b v)).words) dead
-            ∙ ap (λ at. (fetched_from d l true at).words) near
+        words = ap (λ v. (head_read_from d l (not v) (read-at b v)).words) dead
+            ∙ ap (λ at. (head_read_from d l true at).words) near
             ∙ fetched-front p copied.base_aligned stands engine p.base p.batches b.at r.behind d image l items f copied.batches;
-        strayed = ap (λ v. (fetched_from d l (not v) (read-at b v)).strayed) dead
-            ∙ ap (λ at. (fetched_from d l true at).strayed) near
+        strayed = ap (λ v. (head_read_from d l (not v) (read-at b v)).strayed) dead
+            ∙ ap (λ at. (head_read_from d l true at).strayed) near
             ∙ fetched-clean p copied.base_aligned stands engine p.base p.batches b.at r.behind d image l items f copied.base_aligned copied.batches;
         own = f.own;
         long = f.long;
@@ -92,7 +92,7 @@ module _ (d : Device) (image : ℕ) (p : Layout) (l : Loaded) (engine : ℕ) (co
       }
 
 -- What comes next in the ring or a fetched batch: items whose first is the front command.
-pub record Next (p : Layout) (got : FetchedWords) (w : Left) (Past : ℕ → Type 0) : Type 0 where
+pub record Next (p : Layout) (got : HeadRead) (w : Left) (Past : ℕ → Type 0) : Type 0 where
   pub items : Items
   pub front : (read : ℕ → List ℕ) → front read w ≡ words_of items
   pub started : started_by w.ring w.first w.second ≡ started items
@@ -100,18 +100,18 @@ pub record Next (p : Layout) (got : FetchedWords) (w : Left) (Past : ℕ → Typ
 
 module _ (d : Device) (image : ℕ) (p : Layout) (l : Loaded) (engine : ℕ) (place : Saved) (w : Left) (copied : Copied d l.owner image p l.ring_start) (follows : Follows p place w) (form : IsLeft engine w) where
   -- as `Next`, by the levels
-  record By (got : FetchedWords) (f s : Option Level) (Past : ℕ → Type 0) : Type 0 where
+  record By (got : HeadRead) (f s : Option Level) (Past : ℕ → Type 0) : Type 0 where
     items : Items
-    front : (read : ℕ → List ℕ) → own_front_by read w.ring f s ≡ words_of items
+    front : (read : ℕ → List ℕ) → front_by read w.ring f s ≡ words_of items
     started : started_by w.ring f s ≡ started items
     read : Read p got items Past
 
-  with_past : (got : FetchedWords) (items : Items) (P Q : ℕ → Type 0) → Read p got items P → ((n : ℕ) → P n → Q n) → Read p got items Q
+  with_past : (got : HeadRead) (items : Items) (P Q : ℕ → Type 0) → Read p got items P → ((n : ℕ) → P n → Q n) → Read p got items Q
   with_past got items P Q r go = record { c = r.c; words = r.words; strayed = r.strayed; own = r.own; long = r.long; copy = r.copy; past = go (length (words_of items)) r.past }
 
   by-levels : (first second : Option Batch) (f s : Option Level) → LevelAt p first f → LevelAt p second s → LevelMayStand Privileged engine f → LevelMayStand Second engine s
       → is_done_by w.ring f s ≡ false → privileged_by f s ≡ true
-      → By (fetched_from d l (is_global_by first second) (front_by (l.ring_start + place.ring) first second)) f s (λ n. Follows p (past_by place n first second) (own_past_by w n f s))
+      → By (head_read_from d l (is_global_by first second) (active_head_by (l.ring_start + place.ring) first second)) f s (λ n. Follows p (advanced_by place n first second) (past_by w n f s))
   by-levels first (Some b) f (Some (Fetched items)) atf ats mf ms more priv = record {
     items = items;
     front = λ read. refl;
@@ -142,8 +142,8 @@ module _ (d : Device) (image : ℕ) (p : Layout) (l : Loaded) (engine : ℕ) (pl
 
 -- The engine fetches the copy of the front command, and behind it the place stands for what is behind.
 pub next-fetched : (d : Device) (image : ℕ) (p : Layout) (l : Loaded) (engine : ℕ) (w : Left) → StandsFor d image p l w → IsLeft engine w → is_done w ≡ false → is_privileged w ≡ true
-    → Next p (fetched d l) w (λ n. Follows p (past l.place n) (own_past w n))
-unfolding fetched
+    → Next p (head_read d l) w (λ n. Follows p (advanced l.place n) (past w n))
+unfolding head_read
 next-fetched d image p l engine w stands form more priv =
     let b = by-levels d image p l engine l.place w stands.copied stands.place form l.place.first l.place.second w.first w.second stands.place.first stands.place.second form.first form.second more priv in
     record { items = b.items; front = b.front; started = b.started; read = b.read }

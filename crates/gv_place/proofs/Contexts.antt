@@ -2,7 +2,7 @@
 use Rattle.std.proofs.Common.{◌≡◌, ℕ, None, Some, refl, sym, subst}
 use Rattle.gv_ctx.specs.Saved.{fields_of}
 use Rattle.gv_fetch.specs.Left.{Left}
-use Rattle.gv_gpu.specs.Context.{context_of, stopped, submitted}
+use Rattle.gv_gpu.specs.Context.{context_of, stopped, context_submitted}
 use Rattle.gv_gpu.specs.Device.{Device, Loaded, with_loaded}
 use Rattle.gv_scan.specs.Layout.{Layout}
 use Rattle.gv_sctx.specs.Context.{HasImage, HoldsContext, FitsDwords}
@@ -23,7 +23,7 @@ stopped-stands d engine image p l w is has holds small stands =
     subst Q (sym (stopped-context d image engine l is has small holds)) (subst P (sym (stopped-is d image engine l is has small)) (stands-kept d e image p l w keeps stands))
 
 pub submitted-stands : (d : Device) (engine image owner descriptor : ℕ) (p : Layout) (w : Left) → d.loaded engine ≡ None → StandsFor d image p (context_of d owner descriptor) w
-    → StandsFor (submitted d engine owner descriptor) image p (context_of d owner descriptor) w
+    → StandsFor (context_submitted d engine owner descriptor) image p (context_of d owner descriptor) w
 submitted-stands d engine image owner descriptor p w none stands =
     let l = context_of d owner descriptor in
     let e = with_loaded d engine (Some l) in

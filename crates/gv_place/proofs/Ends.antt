@@ -8,16 +8,16 @@ use Rattle.gv_cmd.specs.declared.stands.Stands.{Stands as StandsIn}
 use Rattle.gv_cmd.specs.declared.stands.Stands.TheVariants.{Ring, Privileged, Live}
 use Rattle.gv_cmd.proofs.Lengths.{IsCommand-length}
 use Rattle.gv_gpu.specs.Device.{Device, Loaded}
-use Rattle.gv_gpu.specs.Step.{stands_by, is_global_by, has_ended}
+use Rattle.gv_gpu.specs.Step.{stands_at_by, is_global_by, has_ended}
 use Rattle.gv_fetch.specs.Items.{Items, none, command, batch, MayAllStand}
 use Rattle.gv_scan.specs.Layout.{Layout, RingAt}
-use Rattle.gv_fetch.specs.Left.{Level, Fetched, At, Left, is_none, is_done_by, is_done, stands_by as own_stands_by, privileged_by, IsLeft}
+use Rattle.gv_fetch.specs.Left.{Level, Fetched, At, Left, is_none, is_done_by, is_done, stands_by, privileged_by, IsLeft}
 use Rattle.gv_place.specs.Place.{LevelAt, StandsFor}
 use Rattle.gv_place.proofs.Reading.{ends-within}
 use Rattle.gv_place.proofs.Levels.{front-of}
 
 module _ (p : Layout) where
-  pub stands-same : (first second : Option Batch) (f s : Option Level) → LevelAt p first f → LevelAt p second s → stands_by first second ≡ own_stands_by f s
+  pub stands-same : (first second : Option Batch) (f s : Option Level) → LevelAt p first f → LevelAt p second s → stands_at_by first second ≡ stands_by f s
   stands-same first (Some b) f (Some level) one two = refl
   stands-same first (Some b) f None one two = absurd two
   stands-same first None f (Some level) one two = absurd two

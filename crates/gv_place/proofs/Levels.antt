@@ -7,7 +7,7 @@ use Rattle.gv_cmd.specs.Command.{IsCommand}
 use Rattle.gv_cmd.specs.declared.stands.Stands.{Stands}
 use Rattle.gv_cmd.proofs.Lengths.{IsCommand-length}
 use Rattle.gv_gpu.specs.Device.{Device, Loaded}
-use Rattle.gv_gpu.specs.Step.{fetched_from}
+use Rattle.gv_gpu.specs.Step.{head_read_from}
 use Rattle.gv_fetch.specs.Items.{Items, none, command, batch, is_fetched_start, MayStand, MayAllStand}
 use Rattle.gv_fetch.specs.Items.{start_at}
 use Rattle.gv_scan.specs.Layout.{Layout, Begins, Started, Copies, BatchAt}
@@ -75,7 +75,7 @@ module _ (p : Layout) (fours : p.base % 4 ≡ 0) (stands : Stands) (engine base 
   front-of (batch ws items more) (c ∷ rest) some begins copies may = starting ws c items more rest begins copies.0 copies.1 may.0 may.1
 
   -- what is fetched there
-  pub fetched-front : (d : Device) (image : ℕ) (l : Loaded) (items : Items) (f : Front p base commands at items after) → HasCopy d l.owner image base (concat commands) → (fetched_from d l true at).words ≡ f.c
+  pub fetched-front : (d : Device) (image : ℕ) (l : Loaded) (items : Items) (f : Front p base commands at items after) → HasCopy d l.owner image base (concat commands) → (head_read_from d l true at).words ≡ f.c
   fetched-front d image l items f holds =
       fetched-are d l true at f.c (λ k h. any-root d l.root (at + 4 * k) ∙ dword-here base commands at f.c f.rest f.begins d l.owner image holds k h)
       (IsCommand-length f.c f.command).0 f.command.length
@@ -83,7 +83,7 @@ module _ (p : Layout) (fours : p.base % 4 ≡ 0) (stands : Stands) (engine base 
   front-aligned : (base n at : ℕ) → base % 4 ≡ 0 → at ≡ base + 4 * n → at % 4 ≡ 0
   front-aligned base n at h e = omega arith
 
-  pub fetched-clean : (d : Device) (image : ℕ) (l : Loaded) (items : Items) (f : Front p base commands at items after) → base % 4 ≡ 0 → HasCopy d l.owner image base (concat commands) → (fetched_from d l true at).strayed ≡ false
+  pub fetched-clean : (d : Device) (image : ℕ) (l : Loaded) (items : Items) (f : Front p base commands at items after) → base % 4 ≡ 0 → HasCopy d l.owner image base (concat commands) → (head_read_from d l true at).strayed ≡ false
   fetched-clean d image l items f fit holds =
       fetched-strays d l true at f.c (λ k h. any-root d l.root (at + 4 * k) ∙ dword-here base commands at f.c f.rest f.begins d l.owner image holds k h)
       (IsCommand-length f.c f.command).0 f.command.length

@@ -7,11 +7,11 @@ use Rattle.gv_cmd.specs.Allowed.{is_allowed, may_stand}
 use Rattle.gv_cmd.specs.Table.{length_of, kind_of, read_length}
 use Rattle.gv_gpu.specs.Device.{Device, Loaded}
 use Rattle.gv_gpu.specs.Physical.{dword_at}
-use Rattle.gv_gpu.specs.Step.{fetched_from, fetched, dwords_from, front_by, address_of, is_global_by, past_by, past, moved}
+use Rattle.gv_gpu.specs.Step.{head_read_from, head_read, dwords_from, active_head_by, batch_address, is_global_by, advanced_by, advanced, next_place}
 use Rattle.gv_fetch.specs.Fetch.{dwords}
 use Rattle.gv_fetch.specs.Items.{none, is_fetched_start}
 use Rattle.gv_scan.specs.Layout.{Layout}
-use Rattle.gv_fetch.specs.Left.{Level, Fetched, At, Left, IsLeft, LevelMayStand, live_command, front, front_by as own_front_by, privileged_by, is_privileged, stands_by, stands_of, past_by as own_past_by, past as own_past, moved as own_moved, moved_by as own_moved_by, started_by}
+use Rattle.gv_fetch.specs.Left.{Level, Fetched, At, Left, IsLeft, LevelMayStand, live_command, front, front_by, privileged_by, is_privileged, stands_by, stands_of, past_by, past, moved, moved_by, started_by}
 use Rattle.gv_fetch.proofs.Moving.{live-starts, second-starts}
 use Rattle.gv_cmd.specs.declared.stands.Stands.TheVariants.{Privileged, Second}
 use Rattle.gv_place.specs.Place.{LevelAt, Follows, StandsFor, ReadsSame}
@@ -46,7 +46,7 @@ module _ (d : Device) (l : Loaded) (read : ℕ → ℕ) (agree : ReadsSame d l.r
       (λ k h. let less : k < n = omega arith in agree.dword (at + 4 * k) (four at k fit) ∙ sym (get-dwords read at n k less)) n enough
       ∙ take_all n (dwords read at n) few
 
-  command-same : (at : ℕ) → at % 4 ≡ 0 → (fetched_from d l false at).words ≡ live_command read at
+  command-same : (at : ℕ) → at % 4 ≡ 0 → (head_read_from d l false at).words ≡ live_command read at
   command-same at fit =
       dwords-same at (read_length (length_of (dword_at d l.root false at))) fit
       ∙ ap (λ h. dwords read at (read_length (length_of h))) (agree.dword at fit)
@@ -54,17 +54,17 @@ module _ (d : Device) (l : Loaded) (read : ℕ → ℕ) (agree : ReadsSame d l.r
   read-at : Batch → Bool → ℕ
   read-at b live = cond live (b.at % 2 ^ 48) (min b.at (2 ^ 32))
 
-  live-read : (b : Batch) (at : ℕ) → b.live ≡ true → b.at ≡ at → at % 4 ≡ 0 → (fetched_from d l (not b.live) (address_of b)).words ≡ live_command read (at % 2 ^ 48)
+  live-read : (b : Batch) (at : ℕ) → b.live ≡ true → b.at ≡ at → at % 4 ≡ 0 → (head_read_from d l (not b.live) (batch_address b)).words ≡ live_command read (at % 2 ^ 48)
   unfolding read-at
   live-read b at alive is fit =
       let fit_here : (at % 2 ^ 48) % 4 ≡ 0 = omega arith in
-      ap (λ v. (fetched_from d l (not v) (read-at b v)).words) alive
-      ∙ ap (λ n. (fetched_from d l false (n % 2 ^ 48)).words) is
+      ap (λ v. (head_read_from d l (not v) (read-at b v)).words) alive
+      ∙ ap (λ n. (head_read_from d l false (n % 2 ^ 48)).words) is
       ∙ command-same (at % 2 ^ 48) fit_here
 
   by-levels : (p : Layout) (engine : ℕ) (ring : ℕ) (w : Left) (first second : Option Batch) (f s : Option Level) → LevelAt p first f → LevelAt p second s
       → LevelMayStand Privileged engine f → LevelMayStand Second engine s → privileged_by f s ≡ false
-      → (fetched_from d l (is_global_by first second) (front_by ring first second)).words ≡ own_front_by (live_command read) w.ring f s
+      → (head_read_from d l (is_global_by first second) (active_head_by ring first second)).words ≡ front_by (live_command read) w.ring f s
   by-levels p engine ring w first (Some b) f (Some (Fetched items)) one two mf ms priv = cc
   by-levels p engine ring w first (Some b) f (Some (At at)) one two mf ms priv = live-read b at two.0 two.1 ms
   by-levels p engine ring w first (Some b) f None one two mf ms priv = absurd two
@@ -77,14 +77,14 @@ module _ (d : Device) (l : Loaded) (read : ℕ → ℕ) (agree : ReadsSame d l.r
 
 -- The engine reads the front command of a live batch.
 pub live-fetched : (d : Device) (image : ℕ) (p : Layout) (l : Loaded) (engine : ℕ) (w : Left) (read : ℕ → ℕ) → StandsFor d image p l w → IsLeft engine w → ReadsSame d l.root read → is_privileged w ≡ false
-    → (fetched d l).words ≡ front (live_command read) w
-unfolding fetched
+    → (head_read d l).words ≡ front (live_command read) w
+unfolding head_read
 live-fetched d image p l engine w read stands form agree priv =
     by-levels d l read agree p engine (l.ring_start + l.place.ring) w l.place.first l.place.second w.first w.second stands.place.first stands.place.second form.first form.second priv
 
 module _ (p : Layout) (place : Saved) (w : Left) (follows : Follows p place w) (n : ℕ) where
   past-live : (first second : Option Batch) (f s : Option Level) → LevelAt p first f → LevelAt p second s → privileged_by f s ≡ false
-      → Follows p (past_by place n first second) (own_past_by w n f s)
+      → Follows p (advanced_by place n first second) (past_by w n f s)
   past-live first (Some b) f (Some (Fetched items)) one two priv = cc
   past-live first (Some b) f (Some (At at)) one two priv = record { ring = follows.ring; first = follows.first; second = (two.0, ap (λ a. (a + 4 * n) % 2 ^ 48) two.1) }
   past-live first (Some b) f None one two priv = absurd two
@@ -111,12 +111,12 @@ nothing_started ring None None priv = cc
 
 -- Behind a command of a live batch that may stand there the place stands for what is behind.
 pub live-after : (d : Device) (image : ℕ) (p : Layout) (l : Loaded) (engine : ℕ) (w : Left) (ws : List ℕ) (n : ℕ) → StandsFor d image p l w → is_privileged w ≡ false → is_allowed ws (stands_of w) engine ≡ true
-    → StandsFor d image p (record l { place = moved l.place ws n }) (own_moved w ws n)
+    → StandsFor d image p (record l { place = next_place l.place ws n }) (moved w ws n)
 live-after d image p l engine w ws n stands priv may =
     let f = past-live p l.place w stands.place n l.place.first l.place.second w.first w.second stands.place.first stands.place.second priv in
-    let m = moved-follows p (past l.place n) (own_past w n) f ws ws none (same refl (no_start engine (kind_of ws) w.first w.second priv may)) in
+    let m = moved-follows p (advanced l.place n) (past w n) f ws ws none (same refl (no_start engine (kind_of ws) w.first w.second priv may)) in
     record {
       copied = stands.copied;
       tail = stands.tail;
-      place = let F : _ → Type 0 = λ x. Follows p (moved l.place ws n) (own_moved_by (own_past w n) x (kind_of ws)) in subst F (sym (nothing_started w.ring w.first w.second priv)) m;
+      place = let F : _ → Type 0 = λ x. Follows p (next_place l.place ws n) (moved_by (past w n) x (kind_of ws)) in subst F (sym (nothing_started w.ring w.first w.second priv)) m;
     }

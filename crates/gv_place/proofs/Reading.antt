@@ -6,7 +6,7 @@ use Rattle.std.proofs.lemmas.List.{append-nil, get_or_append_left, get_or-append
 use Rattle.gv_cmd.specs.Table.{length_of, read_length}
 use Rattle.gv_gpu.specs.Device.{Device, Loaded}
 use Rattle.gv_gpu.specs.Physical.{read_page, byte_at, operand_at, dword_at}
-use Rattle.gv_gpu.specs.Step.{dwords_from, dwords_stray, fetched_from}
+use Rattle.gv_gpu.specs.Step.{dwords_from, dwords_stray, head_read_from}
 use Rattle.gv_scan.specs.Layout.{Begins}
 use Rattle.gv_sring.specs.Copy.{Shown, HasCopy}
 
@@ -84,10 +84,10 @@ module _ (d : Device) (l : Loaded) (global : Bool) (at : ℕ) (c : List ℕ) (ea
       let header : dword_at d l.root global at ≡ get_or c 0 0 = ap (dword_at d l.root global) (sym at_zero) ∙ each 0 zero_there in
       ap (λ h. read_length (length_of h)) header ∙ ap read_length names
 
-  pub fetched-are : (fetched_from d l global at).words ≡ c
+  pub fetched-are : (head_read_from d l global at).words ≡ c
   fetched-are =
       let same : length c ≤ length c = omega arith in
       ap (dwords_from d l.root global at) count ∙ dwords-are d l.root global at c each (length c) same ∙ take_all (length c) c same
 
-  pub fetched-strays : (fetched_from d l global at).strayed ≡ dwords_stray d l global at (length c)
+  pub fetched-strays : (head_read_from d l global at).strayed ≡ dwords_stray d l global at (length c)
   fetched-strays = ap (dwords_stray d l global at) count

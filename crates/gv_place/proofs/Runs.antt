@@ -5,10 +5,10 @@ use Rattle.gv_cmd.specs.Table.{kind_of}
 use Rattle.gv_cmd.specs.Command.{IsCommand, shape_of}
 use Rattle.gv_cmd.specs.Effect.{effect}
 use Rattle.gv_gpu.specs.Device.{Device, Loaded}
-use Rattle.gv_gpu.specs.Step.{operations, past, moved}
+use Rattle.gv_gpu.specs.Step.{operations, advanced, next_place}
 use Rattle.gv_fetch.specs.Items.{Items}
 use Rattle.gv_scan.specs.Layout.{Layout}
-use Rattle.gv_fetch.specs.Left.{Left, IsLeft, is_done, front, words_of, started as started_items, is_privileged as own_is_privileged, past as own_past, moved_by as own_moved_by}
+use Rattle.gv_fetch.specs.Left.{Left, IsLeft, is_done, front, words_of, started as started_items, is_privileged, past, moved_by}
 use Rattle.gv_fetch.proofs.Readdressed.{allowed-same, shape-same, effect-same, decoded-whole}
 use Rattle.gv_place.specs.Place.{Follows, StandsFor}
 use Rattle.gv_place.specs.Steps.{SameCommand, Runs}
@@ -31,15 +31,15 @@ same-command p ws c items command (start to is s at) = record {
 }
 
 -- The front command is in the ring or in a fetched batch.
-pub runs-fetched : (d : Device) (image : ℕ) (p : Layout) (l : Loaded) (engine : ℕ) (w : Left) (read : ℕ → List ℕ) → StandsFor d image p l w → IsLeft engine w → is_done w ≡ false → own_is_privileged w ≡ true
+pub runs-fetched : (d : Device) (image : ℕ) (p : Layout) (l : Loaded) (engine : ℕ) (w : Left) (read : ℕ → List ℕ) → StandsFor d image p l w → IsLeft engine w → is_done w ≡ false → is_privileged w ≡ true
     → Runs d image p l w (front read w)
 runs-fetched d image p l engine w read stands form more priv =
     let n = next-fetched d image p l engine w stands form more priv in
     let r = n.read in
     let ws = words_of n.items in
-    let shifted : Follows p (past l.place (length r.c)) (own_past w (length ws)) =
-    (let F : ℕ → Type 0 = λ k. Follows p (past l.place k) (own_past w (length ws)) in subst F (sym r.long) r.past) in
-    let m = moved-follows p (past l.place (length r.c)) (own_past w (length ws)) shifted ws r.c (started_items n.items) r.copy in
+    let shifted : Follows p (advanced l.place (length r.c)) (past w (length ws)) =
+    (let F : ℕ → Type 0 = λ k. Follows p (advanced l.place k) (past w (length ws)) in subst F (sym r.long) r.past) in
+    let m = moved-follows p (advanced l.place (length r.c)) (past w (length ws)) shifted ws r.c (started_items n.items) r.copy in
     let own : Runs d image p l w ws = record {
       c = r.c;
       words = r.words;
@@ -50,7 +50,7 @@ runs-fetched d image p l engine w read stands form more priv =
       after = record {
         copied = stands.copied;
         tail = stands.tail;
-        place = let F : Items → Type 0 = λ x. Follows p (moved l.place r.c (length r.c)) (own_moved_by (own_past w (length ws)) x (kind_of ws)) in subst F (sym n.started) m;
+        place = let F : Items → Type 0 = λ x. Follows p (next_place l.place r.c (length r.c)) (moved_by (past w (length ws)) x (kind_of ws)) in subst F (sym n.started) m;
       };
     } in
     let F : List ℕ → Type 0 = λ x. Runs d image p l w x in

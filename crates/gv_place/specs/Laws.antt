@@ -7,11 +7,11 @@ use Rattle.gv_cmd.specs.Table.{kind_of}
 use Rattle.gv_cmd.specs.declared.stands.Stands.TheVariants.{Ring}
 use Rattle.gv_ctx.specs.declared.saved.Saved.{Saved}
 use Rattle.gv_fetch.specs.Items.{Items, MayAllStand}
-use Rattle.gv_fetch.specs.Left.{Left, IsLeft, begun, is_done, is_privileged as own_is_privileged, front, live_command, stands_of as own_stands_of, moved as own_moved}
-use Rattle.gv_gpu.specs.Context.{context_of, stopped, submitted}
+use Rattle.gv_fetch.specs.Left.{Left, IsLeft, begun, is_done, is_privileged, front, live_command, stands_of, moved}
+use Rattle.gv_gpu.specs.Context.{context_of, stopped, context_submitted}
 use Rattle.gv_gpu.specs.Device.{Device, Loaded, with_loaded}
 use Rattle.gv_gpu.specs.Part.{Part, inside, is_in_windows, shadow_label}
-use Rattle.gv_gpu.specs.Step.{Stepping, operations, fetched, settled, moved, ran_after, has_ended, physical_step}
+use Rattle.gv_gpu.specs.Step.{Stepping, operations, head_read, settled, next_place, retired, has_ended, physical_step}
 use Rattle.gv_gpu.specs.declared.step.Step.TheVariants.{Ran, Waits, Ended}
 use Rattle.gv_scan.specs.Layout.{Layout, IsProgram, placed_layout}
 use Rattle.gv_sctx.specs.Context.{HasImage, HoldsContext, FitsDwords}
@@ -32,18 +32,18 @@ LeftIsSeen = (d : Device) (image : ℕ) (p : Layout) (l : Loaded) (engine : ℕ)
 -- copy is decoded, allowed, shown in the journal and run as that command, and behind it the place stands
 -- for what is left behind it.
 abbrev pub FetchedRuns : Type 0
-FetchedRuns = (d : Device) (image : ℕ) (p : Layout) (l : Loaded) (engine : ℕ) (w : Left) (read : ℕ → List ℕ) → StandsFor d image p l w → IsLeft engine w → is_done w ≡ false → own_is_privileged w ≡ true
+FetchedRuns = (d : Device) (image : ℕ) (p : Layout) (l : Loaded) (engine : ℕ) (w : Left) (read : ℕ → List ℕ) → StandsFor d image p l w → IsLeft engine w → is_done w ≡ false → is_privileged w ≡ true
     → Runs d image p l w (front read w)
 
 -- In a live batch the engine reads the front command, where its reads agree with the guest's; and behind
 -- it the place stands for what is left.
 abbrev pub LiveIsRead : Type 0
-LiveIsRead = (d : Device) (image : ℕ) (p : Layout) (l : Loaded) (engine : ℕ) (w : Left) (read : ℕ → ℕ) → StandsFor d image p l w → IsLeft engine w → ReadsSame d l.root read → own_is_privileged w ≡ false
-    → (fetched d l).words ≡ front (live_command read) w
+LiveIsRead = (d : Device) (image : ℕ) (p : Layout) (l : Loaded) (engine : ℕ) (w : Left) (read : ℕ → ℕ) → StandsFor d image p l w → IsLeft engine w → ReadsSame d l.root read → is_privileged w ≡ false
+    → (head_read d l).words ≡ front (live_command read) w
 
 abbrev pub LiveIsPassed : Type 0
-LiveIsPassed = (d : Device) (image : ℕ) (p : Layout) (l : Loaded) (engine : ℕ) (w : Left) (ws : List ℕ) (n : ℕ) → StandsFor d image p l w → own_is_privileged w ≡ false → is_allowed ws (own_stands_of w) engine ≡ true
-    → StandsFor d image p (record l { place = moved l.place ws n }) (own_moved w ws n)
+LiveIsPassed = (d : Device) (image : ℕ) (p : Layout) (l : Loaded) (engine : ℕ) (w : Left) (ws : List ℕ) (n : ℕ) → StandsFor d image p l w → is_privileged w ≡ false → is_allowed ws (stands_of w) engine ≡ true
+    → StandsFor d image p (record l { place = next_place l.place ws n }) (moved w ws n)
 
 -- ---- whole steps
 
@@ -54,20 +54,20 @@ StepEnds = (d : Device) (image : ℕ) (p : Layout) (engine : ℕ) (l : Loaded) (
 -- A front command that is fetched and may stand there does what the guest's own command does. Where it is
 -- a wait that doesn't hold, the step waits.
 abbrev pub StepRuns : Type 0
-StepRuns = (d : Device) (image : ℕ) (p : Layout) (engine : ℕ) (l : Loaded) (w : Left) → d.loaded engine ≡ Some l → StandsFor d image p l w → IsLeft engine w → is_done w ≡ false → own_is_privileged w ≡ true
-    → (ws : List ℕ) (runs : Runs d image p l w ws) (raise : ℕ) → is_allowed ws (own_stands_of w) engine ≡ true → (does d engine l true ws).raise ≡ Some raise
-    → physical_step d engine ≡ record { after = ran_after (settled (does d engine l true ws).after) engine l runs.c (length ws); answer = Ran runs.c raise }
+StepRuns = (d : Device) (image : ℕ) (p : Layout) (engine : ℕ) (l : Loaded) (w : Left) → d.loaded engine ≡ Some l → StandsFor d image p l w → IsLeft engine w → is_done w ≡ false → is_privileged w ≡ true
+    → (ws : List ℕ) (runs : Runs d image p l w ws) (raise : ℕ) → is_allowed ws (stands_of w) engine ≡ true → (does d engine l true ws).raise ≡ Some raise
+    → physical_step d engine ≡ record { after = retired (settled (does d engine l true ws).after) engine l runs.c (length ws); answer = Ran runs.c raise }
 
 abbrev pub StepWaits : Type 0
-StepWaits = (d : Device) (image : ℕ) (p : Layout) (engine : ℕ) (l : Loaded) (w : Left) → d.loaded engine ≡ Some l → StandsFor d image p l w → IsLeft engine w → is_done w ≡ false → own_is_privileged w ≡ true
-    → (ws : List ℕ) (runs : Runs d image p l w ws) → is_allowed ws (own_stands_of w) engine ≡ true → (does d engine l true ws).raise ≡ None
+StepWaits = (d : Device) (image : ℕ) (p : Layout) (engine : ℕ) (l : Loaded) (w : Left) → d.loaded engine ≡ Some l → StandsFor d image p l w → IsLeft engine w → is_done w ≡ false → is_privileged w ≡ true
+    → (ws : List ℕ) (runs : Runs d image p l w ws) → is_allowed ws (stands_of w) engine ≡ true → (does d engine l true ws).raise ≡ None
     → physical_step d engine ≡ record { after = settled (does d engine l true ws).after; answer = Waits }
 
 -- Where the command's stores left the window and the shadow pages, the place stands behind it.
 abbrev pub StepStands : Type 0
-StepStands = (d : Device) (image : ℕ) (p : Layout) (engine : ℕ) (l : Loaded) (w : Left) → d.loaded engine ≡ Some l → StandsFor d image p l w → IsLeft engine w → is_done w ≡ false → own_is_privileged w ≡ true
+StepStands = (d : Device) (image : ℕ) (p : Layout) (engine : ℕ) (l : Loaded) (w : Left) → d.loaded engine ≡ Some l → StandsFor d image p l w → IsLeft engine w → is_done w ≡ false → is_privileged w ≡ true
     → (ws : List ℕ) (runs : Runs d image p l w ws) → KeepsShadow l.owner image d (does d engine l true ws).after.device
-    → StandsFor (ran_after (settled (does d engine l true ws).after) engine l runs.c (length ws)) image p (record l { place = moved l.place runs.c (length ws) }) (own_moved w ws (length ws))
+    → StandsFor (retired (settled (does d engine l true ws).after) engine l runs.c (length ws)) image p (record l { place = next_place l.place runs.c (length ws) }) (moved w ws (length ws))
 
 -- ---- what stays
 
@@ -105,4 +105,4 @@ StoppedStands = (d : Device) (engine image : ℕ) (p : Layout) (l : Loaded) (w :
 
 abbrev pub SubmittedStands : Type 0
 SubmittedStands = (d : Device) (engine image owner descriptor : ℕ) (p : Layout) (w : Left) → d.loaded engine ≡ None → StandsFor d image p (context_of d owner descriptor) w
-    → StandsFor (submitted d engine owner descriptor) image p (context_of d owner descriptor) w
+    → StandsFor (context_submitted d engine owner descriptor) image p (context_of d owner descriptor) w

@@ -4,9 +4,9 @@ use Rattle.gv_cmd.specs.Allowed.{is_allowed}
 use Rattle.gv_cmd.specs.Command.{decoded, shape_of}
 use Rattle.gv_cmd.specs.Effect.{Effect, effect}
 use Rattle.gv_cmd.specs.declared.stands.Stands.{Stands as StandsIn}
-use Rattle.gv_fetch.specs.Left.{Left, moved as own_moved}
+use Rattle.gv_fetch.specs.Left.{Left, moved}
 use Rattle.gv_gpu.specs.Device.{Device, Loaded}
-use Rattle.gv_gpu.specs.Step.{Stepping, operations, fetched, moved}
+use Rattle.gv_gpu.specs.Step.{Stepping, operations, head_read, next_place}
 use Rattle.gv_place.specs.Place.{StandsFor}
 use Rattle.gv_scan.specs.Layout.{Layout}
 
@@ -20,12 +20,12 @@ pub record SameCommand (ws c : List ℕ) : Type 0 where
 -- what the engine reads for the front command, and where it stands behind it
 pub record Runs (d : Device) (image : ℕ) (p : Layout) (l : Loaded) (w : Left) (ws : List ℕ) : Type 0 where
   pub c : List ℕ
-  pub words : (fetched d l).words ≡ c
-  pub strayed : (fetched d l).strayed ≡ false
+  pub words : (head_read d l).words ≡ c
+  pub strayed : (head_read d l).strayed ≡ false
   pub own : decoded ws ≡ Ok (ws, length ws)
   pub same : SameCommand ws c
   pub long : length c ≡ length ws
-  pub after : StandsFor d image p (record l { place = moved l.place c (length c) }) (own_moved w ws (length ws))
+  pub after : StandsFor d image p (record l { place = next_place l.place c (length c) }) (moved w ws (length ws))
 
 -- what the guest's own command does in the space of the loaded context, where nothing has strayed so far
 abbrev pub does : Device → ℕ → Loaded → Bool → List ℕ → Effect Stepping

@@ -6,7 +6,7 @@ use Rattle.gv_types.specs.declared.event.Width.{Width}
 use Rattle.gv_types.specs.declared.event.Width.TheVariants.{Four, Eight}
 use Rattle.gv_types.specs.declared.ranges.Ranges.{Ranges}
 use Rattle.gv_entry.specs.Entry.{global_frame}
-use Rattle.gv_entry.specs.Global.{entry_of}
+use Rattle.gv_entry.specs.Global.{global_entry}
 use Rattle.gv_entry.specs.Grants.{unless, if_writable, write_grant}
 use Rattle.gv_entry.specs.Ranges.{owns_page}
 use Rattle.gv_entry.specs.SameTables.{SameTables}
@@ -31,8 +31,8 @@ owned-free m roots false o is = tt
 
 pub page-free : (ranges : Ranges) (entries : List ℕ) (m : Memory) (roots : List ℕ) (page : ℕ) → IsFree m roots (page_grant_in ranges entries m roots page)
 page-free ranges entries m roots page =
-    owned-free m roots (owns_page ranges page) (unless (is_guarded m roots) (global_frame (entry_of ranges entries page) (length m)))
-    (unless-free m roots (global_frame (entry_of ranges entries page) (length m)))
+    owned-free m roots (owns_page ranges page) (unless (is_guarded m roots) (global_frame (global_entry ranges entries page) (length m)))
+    (unless-free m roots (global_frame (global_entry ranges entries page) (length m)))
 
 free_writable : (m : Memory) (roots : List ℕ) (frame : ℕ) (writable b : Bool) → is_guarded m roots frame ≡ b → IsFree m roots (cond (writable && not b) (Some frame) None)
 free_writable m roots frame true true guarded = tt

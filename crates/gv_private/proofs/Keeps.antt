@@ -15,7 +15,7 @@ use Rattle.gv_types.specs.declared.event.Width.TheVariants.{Four, Eight}
 use Rattle.gv_types.specs.declared.reply.Reason.{Reason}
 use Rattle.gv_types.specs.declared.reply.Reason.TheVariants.{Entry, Context, Range, Command}
 use Rattle.gv_types.specs.declared.reply.Outcome.TheVariants as outcomes
-use Rattle.gv_entry.specs.Global.{with_entry, entry_of}
+use Rattle.gv_entry.specs.Global.{with_entry, global_entry}
 use Rattle.gv_entry.specs.Ranges.{owns_page}
 use Rattle.gv_entry.specs.SameTables.{has}
 use Rattle.gv_entry.specs.Tables.{has_bad_entry}
@@ -181,7 +181,7 @@ module _ (P : PrivateDevice → Type 0) (May : ℕ → Type 0) (kept : KeptByAcc
   range-keeps q width offset value may here =
       either-keeps P (ltb offset table_at) (dwords_written q width offset value) (quietly (table_written q width offset value))
       (dwords-keep q width offset value may here)
-      (kept.entries q (with_entry q.ranges q.entries (page_at offset) (entry_after width offset (entry_of q.ranges q.entries (page_at offset)) value)) here)
+      (kept.entries q (with_entry q.ranges q.entries (page_at offset) (entry_after width offset (global_entry q.ranges q.entries (page_at offset)) value)) here)
 
   memory-keeps : (q : PrivateDevice) (width : Width) (at value : ℕ) → P q → P (memory_written q width at value).device
   memory-keeps q width at value here =

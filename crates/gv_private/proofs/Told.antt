@@ -34,7 +34,7 @@ use Rattle.gv_private.specs.Status.{bit_raised, bits_raised, user_interrupt, not
 use Rattle.gv_private.specs.Submission.{starting_events, list_submitted, with_writes, port_written_after}
 use Rattle.gv_private.specs.Turn.{Turned, turned_as, front_words, front_effect, ran_after, run_by, command_by, tail_written, without_front, finished, load_by, next_by, turned_by}
 use Rattle.gv_private.proofs.Keeps.{loaded-good}
-use Rattle.gv_cmd.specs.Bits.{bit}
+use Rattle.gv_types.specs.Bits.{has_bit}
 use Rattle.std.specs.List.{filter}
 
 module _ (p : PrivateDevice) where
@@ -131,7 +131,7 @@ module _ (p : PrivateDevice) where
 
   run_told : (engine : ℕ) (w : Working) (ws : List ℕ) (dwords : ℕ) (s : PrivateSpace) (raise : Option ℕ) → Told (run_by p engine w ws dwords s raise).left
   run_told engine w ws dwords s None = refl
-  run_told engine w ws dwords s (Some bits) = bits_told (ran_after p engine w ws dwords s) engine (filter (bit bits) (user_interrupt ∷ notify ∷ [])) refl
+  run_told engine w ws dwords s (Some bits) = bits_told (ran_after p engine w ws dwords s) engine (filter (has_bit bits) (user_interrupt ∷ notify ∷ [])) refl
 
   command_told : (engine : ℕ) (w : Working) (r : Result (List ℕ × ℕ) Unlisted) → Told (command_by p engine w r).left
   command_told engine w (Err unlisted) = refl

@@ -10,7 +10,7 @@ use Rattle.gv_ctx.specs.Image.{image_read}
 use Rattle.gv_ctx.specs.declared.descriptor.Descriptor.{Descriptor}
 use Rattle.gv_ctx.specs.declared.image.Image.{Image}
 use Rattle.gv_entry.specs.Entry.{global_frame}
-use Rattle.gv_entry.specs.Global.{entry_of}
+use Rattle.gv_entry.specs.Global.{global_entry}
 use Rattle.gv_entry.specs.Grants.{unless, nothing_guarded}
 use Rattle.gv_entry.specs.Ranges.{owns_page}
 use Rattle.gv_entry.specs.Tables.{has_bad_entry, is_guarded}
@@ -124,7 +124,7 @@ module _ (frame : ℕ) (words : List ℕ) where
 
 unnamed_page : (p : PrivateDevice) (engine frame : ℕ) (roots : List ℕ) → IsUnnamed p engine frame → (page : ℕ) → page_grant_in p.ranges p.entries p.memory roots page ≢ Some frame
 unnamed_page p engine frame roots unnamed page =
-    let o = global_frame (entry_of p.ranges p.entries page) (length p.memory) in
+    let o = global_frame (global_entry p.ranges p.entries page) (length p.memory) in
     λ is. unnamed.global page (owned_named frame (owns_page p.ranges page) (unless (is_guarded p.memory roots) o) (unless nothing_guarded o) (unless_named frame (is_guarded p.memory roots) o) is)
 
 pub unnamed_is_untouched : UnnamedIsUntouched

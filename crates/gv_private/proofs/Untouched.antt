@@ -3,7 +3,7 @@
 use Rattle.std.proofs.Common.{◌≡◌, ◌≢◌, ℕ, suc, zero, ◌+◌, ◌*◌, ◌/◌, ◌%◌, ◌^◌, Bool, true, false, not, ◌&&◌, List, [], ◌∷◌, Option, None, Some, Result, Ok, Err, cond, get_or, set, refl, sym, ap, ◌∙◌, subst}
 use Rattle.std.proofs.lemmas.List.{get_or-set_other}
 use Rattle.std.specs.Option.{option_or}
-use Rattle.gv_types.specs.Bits.{byte_of, with_byte}
+use Rattle.gv_types.specs.Bits.{byte_of, with_byte, has_bit}
 use Rattle.gv_types.specs.Memory.{Memory, word_of, with_word, half_of, with_half}
 use Rattle.gv_types.specs.declared.event.Width.{Width}
 use Rattle.gv_types.specs.declared.event.Width.TheVariants.{Four, Eight}
@@ -12,7 +12,6 @@ use Rattle.gv_types.specs.declared.reply.Outcome.TheVariants as outcomes
 use Rattle.gv_types.specs.declared.reply.Reason.{Reason}
 use Rattle.gv_types.specs.declared.reply.Reason.TheVariants.{Command}
 use Rattle.gv_cmd.specs.Allowed.{is_allowed}
-use Rattle.gv_cmd.specs.Bits.{bit}
 use Rattle.gv_cmd.specs.Command.{decoded}
 use Rattle.gv_cmd.specs.Effect.{effect, colour_byte}
 use Rattle.gv_cmd.specs.Simulation.{Simulates, SameEffect}
@@ -22,7 +21,7 @@ use Rattle.gv_cmd.proofs.Simulation.{effects_agree}
 use Rattle.gv_csb.specs.Slots.{completion_events}
 use Rattle.gv_csb.specs.declared.status.Status.{Status}
 use Rattle.gv_ctx.specs.Descriptor.{descriptor_of}
-use Rattle.gv_entry.specs.Global.{entry_of}
+use Rattle.gv_entry.specs.Global.{global_entry}
 use Rattle.gv_entry.specs.Grants.{global_grant, frame_of, if_writable, read_grant}
 use Rattle.gv_entry.specs.SameTables.{has, SameTables}
 use Rattle.gv_entry.specs.Tables.{Mapped, walk, is_guarded}
@@ -82,7 +81,7 @@ write_other m frame words Eight at value (Some h) other = with_word_other m fram
 pub page_same : (ranges : Ranges) (entries : List ℕ) (m n : Memory) (roots : List ℕ) (page : ℕ) → SameTables m n roots → page_grant_in ranges entries n roots page ≡ page_grant_in ranges entries m roots page
 page_same ranges entries m n roots page same =
     let meaning = tables_decide m n roots same in
-    λ i. global_grant ranges (same.frames i) (meaning.guarded i) (entry_of ranges entries) page
+    λ i. global_grant ranges (same.frames i) (meaning.guarded i) (global_entry ranges entries) page
 
 written_frame : (frame : ℕ) (f : ℕ) (writable b : Bool) → cond (writable && not b) (Some f) None ≡ Some frame → Some f ≡ Some frame
 written_frame frame f true true is = cc
@@ -304,7 +303,7 @@ module _ (frame : ℕ) (words : List ℕ) where
   run_same : (p : PrivateDevice) (engine : ℕ) (w : Working) (ws : List ℕ) (dwords : ℕ) (s : PrivateSpace) (raise : Option ℕ) → run_by (other p) engine w ws dwords (other_words s) raise ≡ other_turn (run_by p engine w ws dwords s raise)
   run_same p engine w ws dwords s None = refl
   run_same p engine w ws dwords s (Some bits) =
-      ap (λ (left : Written). record (run_by p engine w ws dwords s (Some bits)) { left = left }) (bits_same (ran_after p engine w ws dwords s) engine (filter (bit bits) (user_interrupt ∷ notify ∷ [])))
+      ap (λ (left : Written). record (run_by p engine w ws dwords s (Some bits)) { left = left }) (bits_same (ran_after p engine w ws dwords s) engine (filter (has_bit bits) (user_interrupt ∷ notify ∷ [])))
 
   command_same : (p : PrivateDevice) (engine : ℕ) (w : Working) (r : Result (List ℕ × ℕ) Unlisted) → Spared (space_of p engine w.root) → command_by (other p) engine w r ≡ other_turn (command_by p engine w r)
   command_same p engine w (Err unlisted) spared = refl

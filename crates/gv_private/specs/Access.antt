@@ -6,7 +6,7 @@ use Rattle.gv_types.specs.declared.event.Place.{Place}
 use Rattle.gv_types.specs.declared.event.Place.TheVariants as places
 use Rattle.gv_types.specs.declared.event.Width.{Width}
 use Rattle.gv_types.specs.declared.event.Width.TheVariants.{Four, Eight}
-use Rattle.gv_entry.specs.Global.{entry_of, with_entry}
+use Rattle.gv_entry.specs.Global.{global_entry, with_entry}
 use Rattle.gv_entry.specs.Ranges.{is_in}
 use Rattle.gv_private.specs.Device.{PrivateDevice, Written, quietly, and_then}
 use Rattle.gv_private.specs.Grants.{page_grant, frame_read, frame_written}
@@ -48,11 +48,11 @@ entry_after Eight offset entry value = value
 
 -- An entry that isn't in the guest's ranges reads 0 and isn't written.
 abbrev pub table_read : PrivateDevice → Width → ℕ → ℕ
-table_read p width offset = entry_read width offset (entry_of p.ranges p.entries (page_at offset))
+table_read p width offset = entry_read width offset (global_entry p.ranges p.entries (page_at offset))
 
 abbrev pub table_written : PrivateDevice → Width → ℕ → ℕ → PrivateDevice
 table_written p width offset value =
-    record p { entries = with_entry p.ranges p.entries (page_at offset) (entry_after width offset (entry_of p.ranges p.entries (page_at offset)) value) }
+    record p { entries = with_entry p.ranges p.entries (page_at offset) (entry_after width offset (global_entry p.ranges p.entries (page_at offset)) value) }
 
 -- ---- registers: an access of eight bytes is that of the low dword, then that of the high one
 

@@ -8,7 +8,7 @@ use Rattle.gv_types.specs.declared.ranges.Ranges.{Ranges}
 use Rattle.gv_types.specs.declared.reply.Answer.{Answer}
 use Rattle.gv_types.specs.declared.reply.Answer.TheVariants.{Moved, Kept}
 use Rattle.gv_entry.specs.Entry.{global_frame}
-use Rattle.gv_entry.specs.Global.{entry_of}
+use Rattle.gv_entry.specs.Global.{global_entry}
 use Rattle.gv_entry.specs.Grants.{global_grant, is_mapped}
 use Rattle.gv_entry.specs.Tables.{is_guarded}
 use Rattle.gv_private.specs.Device.{PrivateDevice}
@@ -16,7 +16,7 @@ use Rattle.gv_private.specs.Device.{PrivateDevice}
 -- The frame that a page of the global table grants, for reading and for writing: the page is owned, its entry
 -- names a frame in memory, and that frame isn't a live table.
 abbrev pub page_grant_in : Ranges → List ℕ → Memory → List ℕ → ℕ → Option ℕ
-page_grant_in ranges entries m roots page = global_grant ranges (length m) (is_guarded m roots) (entry_of ranges entries) page
+page_grant_in ranges entries m roots page = global_grant ranges (length m) (is_guarded m roots) (global_entry ranges entries) page
 
 abbrev pub page_grant : PrivateDevice → ℕ → Option ℕ
 page_grant p page = page_grant_in p.ranges p.entries p.memory p.roots page

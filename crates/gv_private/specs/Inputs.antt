@@ -10,14 +10,14 @@ use Rattle.gv_types.specs.declared.reply.Reply.{Reply}
 use Rattle.gv_private.specs.Device.{PrivateDevice, Written, quietly, function_reset}
 use Rattle.gv_private.specs.Access.{value_read, value_written}
 use Rattle.gv_private.specs.Grants.{move_answer}
-use Rattle.gv_private.specs.Turn.{JournalEntry, Turned, turned}
+use Rattle.gv_private.specs.Turn.{RanCommand, Turned, turned}
 
 -- ---- one event
 
 pub record Answered : Type 0 where
   pub reply : Reply
   pub left : PrivateDevice
-  pub ran : List JournalEntry
+  pub ran : List RanCommand
 
 -- A reply tells its guest an answer; IIR of the group of which an interrupt was injected; and the reason where the
 -- guest entered failsafe.
@@ -56,7 +56,7 @@ events_in (turns engine count) = replicate count (events.Turn engine)
 pub record Told : Type 0 where
   pub replies : List Reply
   pub left : PrivateDevice
-  pub ran : List JournalEntry
+  pub ran : List RanCommand
 
 abbrev pub told : PrivateDevice → List Event → Told
 told p [] = record { replies = []; left = p; ran = [] }

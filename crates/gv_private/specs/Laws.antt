@@ -16,7 +16,7 @@ use Rattle.gv_ctx.specs.declared.image.Image.{Image}
 use Rattle.gv_csb.specs.Slots.{completion_events, begins}
 use Rattle.gv_csb.specs.Status.{element_switch, active_to_idle}
 use Rattle.gv_csb.specs.declared.status.Status.{Status}
-use Rattle.gv_entry.specs.Global.{entry_of}
+use Rattle.gv_entry.specs.Global.{global_entry}
 use Rattle.gv_entry.specs.Grants.{global_grant, nothing_guarded, read_grant}
 use Rattle.gv_entry.specs.SameTables.{has, SameMeaning}
 use Rattle.gv_entry.specs.Tables.{is_guarded}
@@ -161,7 +161,7 @@ UngrantedIsUntouched =
 
 -- the frame that a page's entry names is given to nobody who doesn't own the page
 abbrev pub named_by : PrivateDevice → ℕ → Option ℕ
-named_by p page = global_grant p.ranges (length p.memory) nothing_guarded (entry_of p.ranges p.entries) page
+named_by p page = global_grant p.ranges (length p.memory) nothing_guarded (global_entry p.ranges p.entries) page
 
 -- A frame that no entry of an owned page names, and that is no live table, nor will be one when the root of the next
 -- element is announced.

@@ -2,8 +2,8 @@
 use Rattle.std.specs.Prelude.{ℕ, ◌+◌, ◌*◌, ◌/◌, List, [], ◌∷◌, filter}
 use Rattle.gv_csb.specs.Slots.{pushed}
 use Rattle.gv_csb.specs.declared.status.Status.{Status}
-use Rattle.gv_cmd.specs.Bits.{bit}
-use Rattle.gv_cmd.specs.Effect.{base_of}
+use Rattle.gv_types.specs.Bits.{has_bit}
+use Rattle.gv_types.specs.Engines.{register_base}
 use Rattle.gv_irq.specs.Irq.{interrupt_bit, raised, raising_tells}
 use Rattle.gv_private.specs.Device.{PrivateDevice, Written, with_slots, quietly, and_then}
 use Rattle.gv_private.specs.Grants.{global_written}
@@ -31,13 +31,13 @@ bits_raised p engine (n ∷ more) = and_then (bit_raised p engine n) (λ q. bits
 
 -- what a command raises, given as a set of bits: the user interrupt, notify, or nothing
 abbrev pub command_raised : PrivateDevice → ℕ → ℕ → Written
-command_raised p engine bits = bits_raised p engine (filter (bit bits) (user_interrupt ∷ notify ∷ []))
+command_raised p engine bits = bits_raised p engine (filter (has_bit bits) (user_interrupt ∷ notify ∷ []))
 
 -- ---- status events
 
 -- The status page of an engine is the global page in bits 31..12 of its register HWS_PGA.
 abbrev pub status_page : PrivateDevice → ℕ → ℕ
-status_page p engine = p.registers (base_of engine + 0x80) / 4096
+status_page p engine = p.registers (register_base engine + 0x80) / 4096
 
 -- the global address of a dword of the status page
 abbrev pub status_at : PrivateDevice → ℕ → ℕ → ℕ

@@ -18,7 +18,7 @@ use Rattle.gv_private.specs.Status.{command_raised, events_given}
 
 -- A command that ran: on which engine, for which guest, and its shape, which is its dwords without the address of
 -- a fetched batch.
-pub record JournalEntry : Type 0 where
+pub record RanCommand : Type 0 where
   pub engine : ℕ
   pub guest : ℕ
   pub shape : List ℕ
@@ -27,7 +27,7 @@ pub record JournalEntry : Type 0 where
 pub record Turned : Type 0 where
   pub left : Written
   pub outcome : Outcome
-  pub ran : List JournalEntry
+  pub ran : List RanCommand
 
 abbrev pub turned_as : Outcome → Written → Turned
 turned_as outcome left = record { left = left; outcome = outcome; ran = [] }
@@ -47,14 +47,14 @@ front_effect p engine w ws = effect private_operations ws engine (is_privileged 
 abbrev pub ran_after : PrivateDevice → ℕ → Working → List ℕ → ℕ → PrivateSpace → PrivateDevice
 ran_after p engine w ws dwords s = with_element (with_space p engine s) engine (Some (record w { left = moved w.left ws dwords }))
 
-abbrev pub journalled : PrivateDevice → ℕ → List ℕ → JournalEntry
-journalled p engine ws = record { engine = engine; guest = p.number; shape = shape_of ws }
+abbrev pub ran_command : PrivateDevice → ℕ → List ℕ → RanCommand
+ran_command p engine ws = record { engine = engine; guest = p.number; shape = shape_of ws }
 
 -- A wait that doesn't hold changes nothing. Any other command runs, and then its interrupt bits are raised.
 abbrev pub run_by : PrivateDevice → ℕ → Working → List ℕ → ℕ → PrivateSpace → Option ℕ → Turned
 run_by p engine w ws dwords s None = turned_as outcomes.Waited (quietly p)
 run_by p engine w ws dwords s (Some bits) =
-    record { left = command_raised (ran_after p engine w ws dwords s) engine bits; outcome = outcomes.Ran; ran = journalled p engine ws ∷ [] }
+    record { left = command_raised (ran_after p engine w ws dwords s) engine bits; outcome = outcomes.Ran; ran = ran_command p engine ws ∷ [] }
 
 -- A command that is unlisted, or that may not stand where it stands, fails the guest; only a live batch can have one.
 abbrev pub command_by : PrivateDevice → ℕ → Working → Result (List ℕ × ℕ) Unlisted → Turned

@@ -11,7 +11,7 @@ use Rattle.gv_regs.specs.declared.effect.Target.TheVariants.{Own, Elsp, Status, 
 use Rattle.gv_regs.specs.declared.table.Kind.{Kind}
 use Rattle.gv_regs.specs.declared.table.Row.{Row as CodeRow}
 use Rattle.gv_regs.specs.declared.table.TheConstants.{ENGINE_ROWS, SHARED_ROWS}
-use Rattle.gv_regs.specs.Table.{Row, Engine, engines, engine_rows, shared_rows, registers, id_of, covers, row_at, kind_of, target_of, kind_at, target_at}
+use Rattle.gv_regs.specs.Table.{Row, EngineBlock, engines, engine_rows, shared_rows, registers, id_of, covers, row_at, row_kind, target_of, kind_at, target_at}
 use Rattle.gv_regs.specs.Registers.{is_number, kept_offsets, slot_of}
 use Rattle.gv_regs.specs.Decoded.{row_covers, target_in, register_by, register_of, stands_in, number_in, dword_read_by, HasSlot, StandsAt}
 use Rattle.gv_regs.proofs.Finds.{found, find-map, at_number}
@@ -71,7 +71,7 @@ plain row = record row { reset = 0 }
 abbrev described : ℕ → Option ℕ → EngineId → CodeRow → Row
 described base engine id row = record { first = base + row.0; dwords = row.1; engine = engine; kind = row.2; target = target_in row.3 id; reset = 0 }
 
-kind-plain : (row : Option Row) → kind_of (option_map plain row) ≡ kind_of row
+kind-plain : (row : Option Row) → row_kind (option_map plain row) ≡ row_kind row
 kind-plain None = refl
 kind-plain (Some row) = refl
 
@@ -101,8 +101,8 @@ module _ (base : ℕ) (engine : Option ℕ) (id : EngineId) (first_slot : ℕ) (
   target_found : target_at offset ≡ target_of (option_map (described base engine id) code_row) offset
   target_found = sym (target-plain (row_at offset) offset) ∙ ap (λ row. target_of row offset) row_found
 
-  kind_found : kind_at offset ≡ kind_of (option_map (described base engine id) code_row)
-  kind_found = sym (kind-plain (row_at offset)) ∙ ap kind_of row_found
+  kind_found : kind_at offset ≡ row_kind (option_map (described base engine id) code_row)
+  kind_found = sym (kind-plain (row_at offset)) ∙ ap row_kind row_found
 
   stands_at : (row : Option CodeRow) → code_row ≡ row → StandsAt offset (register_of row at id first_slot)
   stands_at None none = target_found ∙ ap (λ row. target_of (option_map (described base engine id) row) offset) none
@@ -120,7 +120,7 @@ module _ (base : ℕ) (engine : Option ℕ) (id : EngineId) (first_slot : ℕ) (
       let ok = subst (λ n. test n ≡ true) zero (at_number test 0 row.1 number parts.1 few) in
       stands_by offset (first_slot + row.4 + number) (target_in row.3 id number) row.2
       (target_found ∙ ap (λ r. target_of (option_map (described base engine id) r) offset) some ∙ ap (target_in row.3 id) same_number)
-      (kind_found ∙ ap (λ r. kind_of (option_map (described base engine id) r)) some)
+      (kind_found ∙ ap (λ r. row_kind (option_map (described base engine id) r)) some)
       (subst (λ o. dword_is_right (target_in row.3 id number) row.2 o (first_slot + row.4 + number) ≡ true) here ok)
 
   pub stands : StandsAt offset (register_of code_row at id first_slot)
@@ -141,7 +141,7 @@ unfolding row_at
 row_at-unaligned offset odd = rw odd refl
 
 -- an engine's base is a multiple of 4 KiB, and its rows are right
-abbrev engine_is_right : Engine → Bool
+abbrev engine_is_right : EngineBlock → Bool
 engine_is_right e = eqb (e.base % 0x1000) 0 && list_all (row_is_right e.base (id_of e) (e.number * 6)) ENGINE_ROWS
 
 engines_are_right : list_all engine_is_right engines ≡ true
@@ -155,7 +155,7 @@ shared_are_right = refl
 abbrev IsAnswer : ℕ → ℕ → Type 0
 IsAnswer offset number = StandsAt offset (register_of (find (λ row. row_covers row (offset % 0x1000)) ENGINE_ROWS) (offset % 0x1000) (record { 0 = number }) (number * 6))
 
-engine_by : (offset number : ℕ) (e : Option Engine) → offset % 4 ≡ 0 → find (stands_in offset) engines ≡ e → Some number ≡ number_in e → IsAnswer offset number
+engine_by : (offset number : ℕ) (e : Option EngineBlock) → offset % 4 ≡ 0 → find (stands_in offset) engines ≡ e → Some number ≡ number_in e → IsAnswer offset number
 engine_by offset number None aligned is same = cc
 engine_by offset number (Some e) aligned is same =
     let known = found (stands_in offset) engine_is_right engines e engines_are_right is in
@@ -170,7 +170,7 @@ engine_by offset number (Some e) aligned is same =
 pub engine_stands : (offset number : ℕ) → offset % 4 ≡ 0 → Some number ≡ number_in (find (stands_in offset) engines) → IsAnswer offset number
 engine_stands offset number aligned same = engine_by offset number (find (stands_in offset) engines) aligned refl same
 
-shared_by : (offset : ℕ) (e : Option Engine) → offset % 4 ≡ 0 → find (stands_in offset) engines ≡ e → None ≡ number_in e → StandsAt offset (register_of (find (λ row. row_covers row offset) SHARED_ROWS) offset (record { 0 = 0 }) 24)
+shared_by : (offset : ℕ) (e : Option EngineBlock) → offset % 4 ≡ 0 → find (stands_in offset) engines ≡ e → None ≡ number_in e → StandsAt offset (register_of (find (λ row. row_covers row offset) SHARED_ROWS) offset (record { 0 = 0 }) 24)
 shared_by offset (Some e) aligned is same = cc
 shared_by offset None aligned is same =
     stands 0 None (record { 0 = 0 }) 24 shared_rows SHARED_ROWS refl shared_are_right offset offset (omega arith) aligned

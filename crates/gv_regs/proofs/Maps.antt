@@ -7,8 +7,8 @@ use borrow.Rule.Slice.PartMut.{put_mid}
 use Rattle.std.proofs.lemmas.List.Quantifiers.{position-Some}
 use Rattle.std.specs.List.{find, list_all, range_with_len}
 use Rattle.gv_regs.specs.declared.table.Kind.{Kind}
-use Rattle.gv_regs.specs.Table.{Row, registers, covers, row_at, kind_at, reset_of, reset_at, engine_at, kind_of, target_of}
-use Rattle.gv_regs.specs.Registers.{is_own, is_written, keeps, dword_after, put, register_written, reset_registers, is_number, engine_reset, kept_offsets, slot_of, dword_in}
+use Rattle.gv_regs.specs.Table.{Row, registers, covers, row_at, kind_at, reset_of, reset_at, engine_at, row_kind, target_of}
+use Rattle.gv_regs.specs.Registers.{is_own, is_written, keeps, dword_after, with_register, register_written, reset_registers, is_number, engine_reset, kept_offsets, slot_of, dword_in}
 use Rattle.gv_regs.specs.Decoded.{IsOwn}
 use Rattle.gv_regs.proofs.Finds.{found, at_number}
 
@@ -39,21 +39,21 @@ put_by q offset slot value dwords false (Some s) e is has below =
     get_or-set_other dwords slot s value 0
     (λ s_is. false≢true (sym e ∙ eq-eqb offset q (sym (place_of offset slot has).1 ∙ ap (λ k. get_or kept_offsets k 0) (sym s_is) ∙ (place_of q s is).1)))
 
-written_own : (map : ℕ → ℕ) (offset value slot : ℕ) (kind : Kind) → IsOwn kind slot offset → is_written kind ≡ true → register_written map offset value ≡ put map offset (dword_after kind (map offset) value)
+written_own : (map : ℕ → ℕ) (offset value slot : ℕ) (kind : Kind) → IsOwn kind slot offset → is_written kind ≡ true → register_written map offset value ≡ with_register map offset (dword_after kind (map offset) value)
 written_own map offset value slot kind own writes =
-    ap (λ t. if is_own t && is_written (kind_at offset) then put map offset (dword_after (kind_at offset) (map offset) value) else map) own.target
-    ∙ ap (λ k. if is_written k then put map offset (dword_after k (map offset) value) else map) own.kind
-    ∙ ap (λ w. if w then put map offset (dword_after kind (map offset) value) else map) writes
+    ap (λ t. if is_own t && is_written (kind_at offset) then with_register map offset (dword_after (kind_at offset) (map offset) value) else map) own.target
+    ∙ ap (λ k. if is_written k then with_register map offset (dword_after k (map offset) value) else map) own.kind
+    ∙ ap (λ w. if w then with_register map offset (dword_after kind (map offset) value) else map) writes
 
 -- a kept register is written in its slot
 pub written : (dwords : List ℕ) (slot offset value new : ℕ) (kind : Kind) → length dwords ≡ 29 → IsOwn kind slot offset → is_written kind ≡ true → slot < 29 → slot_of offset ≡ Some slot → new ≡ dword_after kind (get_or dwords slot 0) value
     → (λ q. dword_in (set dwords slot new) (slot_of q)) ≡ register_written (λ q. dword_in dwords (slot_of q)) offset value
 written dwords slot offset value new kind same own writes below has is =
     let map : ℕ → ℕ = λ q. dword_in dwords (slot_of q) in
-    let pointwise : (q : ℕ) → dword_in (set dwords slot new) (slot_of q) ≡ put map offset new q
+    let pointwise : (q : ℕ) → dword_in (set dwords slot new) (slot_of q) ≡ with_register map offset new q
     = λ q. put_by q offset slot new dwords (eqb offset q) (slot_of q) refl refl has (omega arith) in
     (λ i q. pointwise q i)
-    ∙ ap (put map offset) (is ∙ ap (λ at. dword_after kind (dword_in dwords at) value) (sym has))
+    ∙ ap (with_register map offset) (is ∙ ap (λ at. dword_after kind (dword_in dwords at) value) (sym has))
     ∙ sym (written_own map offset value slot kind own writes)
 
 -- ---- reset values
@@ -84,7 +84,7 @@ number_below first dwords offset covers =
     let from : first ≤ offset = grind (arith, nat_tests) in
     omega arith
 
-zero_by : (offset : ℕ) (row : Option Row) → row_at offset ≡ row → (is_own (target_of row offset) && is_written (kind_of row)) ≡ true → reset_of row ≡ 0
+zero_by : (offset : ℕ) (row : Option Row) → row_at offset ≡ row → (is_own (target_of row offset) && is_written (row_kind row)) ≡ true → reset_of row ≡ 0
 zero_by offset None is kept = refl
 zero_by offset (Some row) is kept =
     let known = found (λ r. covers r offset) resets_right registers row all_right (in_table offset row is) in

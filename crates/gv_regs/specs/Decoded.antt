@@ -9,7 +9,7 @@ use Rattle.gv_regs.specs.declared.effect.Target.TheVariants.{Own, Elsp, Status, 
 use Rattle.gv_regs.specs.declared.table.Kind.{Kind}
 use Rattle.gv_regs.specs.declared.table.Kind.TheVariants.{Plain, Masked, Acknowledges}
 use Rattle.gv_regs.specs.declared.table.Row.{Row}
-use Rattle.gv_regs.specs.Table.{Engine, engines, kind_at, target_at}
+use Rattle.gv_regs.specs.Table.{EngineBlock, engines, kind_at, target_at}
 use Rattle.gv_regs.specs.Registers.{slot_of, IsTarget}
 
 -- ---- the code's rows, which hold of one engine or of none
@@ -34,10 +34,10 @@ register_of None at engine first_slot = found.Absent
 register_of (Some row) at engine first_slot = register_by (target_in row.3 engine ((at - row.0) / 4)) row.2 (first_slot + row.4 + (at - row.0) / 4)
 
 -- An engine has the 4 KiB from its base on for itself.
-abbrev pub stands_in : ℕ → Engine → Bool
+abbrev pub stands_in : ℕ → EngineBlock → Bool
 stands_in offset e = nat_le e.base offset && nat_lt offset (e.base + 0x1000)
 
-abbrev pub number_in : Option Engine → Option ℕ
+abbrev pub number_in : Option EngineBlock → Option ℕ
 number_in None = None
 number_in (Some e) = Some e.number
 

@@ -84,11 +84,11 @@ abbrev pub dword_after : Kind → ℕ → ℕ → ℕ
 dword_after Masked old value = masked old value
 dword_after kind old value = value
 
-abbrev pub put : (ℕ → ℕ) → ℕ → ℕ → ℕ → ℕ
-put map offset value at = if offset == at then value else map at
+abbrev pub with_register : (ℕ → ℕ) → ℕ → ℕ → ℕ → ℕ
+with_register map offset value at = if offset == at then value else map at
 
 abbrev pub register_written : (ℕ → ℕ) → ℕ → ℕ → ℕ → ℕ
-register_written map offset value = if keeps offset then put map offset (dword_after (kind_at offset) (map offset) value) else map
+register_written map offset value = if keeps offset then with_register map offset (dword_after (kind_at offset) (map offset) value) else map
 
 -- what became of a write: it was kept, it did nothing, or it goes to another part of the device
 abbrev pub effect_of : Target → Kind → Effect

@@ -3,6 +3,7 @@
 use Rattle.std.specs.Prelude.{ℕ, ◌+◌, ◌-◌, ◌*◌, ◌/◌, ◌%◌, Bool, map, ◌==◌, ◌&&◌, ◌||◌, nat_le, nat_lt, if◌then◌else◌, List, [], ◌∷◌, ◌++◌, Option, Some, None}
 use Rattle.std.specs.Int.{bit_at}
 use Rattle.std.specs.List.{find, flat_map}
+use Rattle.gv_types.specs.Engines.{register_base}
 use Rattle.gv_types.specs.Bits.{has_bit}
 use Rattle.gv_types.specs.declared.ids.EngineId.{EngineId}
 use Rattle.gv_regs.specs.declared.effect.Target.{Target}
@@ -29,28 +30,28 @@ to target number = target
 
 -- ---- the engines
 
-pub record Engine : Type 0 where
+pub record EngineBlock : Type 0 where
   pub number : ℕ
   pub base : ℕ  -- the offset from which its registers are counted
   pub reset_bit : ℕ  -- its bit of the engine reset register
 
 -- RCS, BCS, VCS and VECS, in the order of their numbers
-abbrev pub engines : List Engine
+abbrev pub engines : List EngineBlock
 engines =
-    record { number = 0; base = 0x2000; reset_bit = 1 }
-    ∷ record { number = 1; base = 0x22000; reset_bit = 3 }
-    ∷ record { number = 2; base = 0x12000; reset_bit = 2 }
-    ∷ record { number = 3; base = 0x1A000; reset_bit = 4 }
+    record { number = 0; base = register_base 0; reset_bit = 1 }
+    ∷ record { number = 1; base = register_base 1; reset_bit = 3 }
+    ∷ record { number = 2; base = register_base 2; reset_bit = 2 }
+    ∷ record { number = 3; base = register_base 3; reset_bit = 4 }
     ∷ []
 
-abbrev pub id_of : Engine → EngineId
+abbrev pub id_of : EngineBlock → EngineId
 id_of e = record { 0 = e.number }
 
-abbrev pub of_engine : Engine → ℕ → ℕ → Kind → (ℕ → Target) → ℕ → Row
+abbrev pub of_engine : EngineBlock → ℕ → ℕ → Kind → (ℕ → Target) → ℕ → Row
 of_engine e at dwords kind target reset =
     record { first = e.base + at; dwords = dwords; engine = Some e.number; kind = kind; target = target; reset = reset }
 
-abbrev pub engine_rows : Engine → List Row
+abbrev pub engine_rows : EngineBlock → List Row
 engine_rows e =
     of_engine e 0x30 4 Plain own 0  -- tail, head, start and control of the ring
     ∷ of_engine e 0x80 1 Plain own 0  -- the global page of the status page, in bits 31..12
@@ -133,12 +134,12 @@ unfoldable pub row_at : ℕ → Option Row
 row_at offset = row_in registers offset
 
 -- Where there is no register, nothing is written.
-abbrev pub kind_of : Option Row → Kind
-kind_of None = ReadOnly
-kind_of (Some row) = row.kind
+abbrev pub row_kind : Option Row → Kind
+row_kind None = ReadOnly
+row_kind (Some row) = row.kind
 
 abbrev pub kind_at : ℕ → Kind
-kind_at offset = kind_of (row_at offset)
+kind_at offset = row_kind (row_at offset)
 
 abbrev pub target_of : Option Row → ℕ → Target
 target_of None offset = Absent
@@ -164,7 +165,7 @@ engine_at offset = engine_of (row_at offset)
 -- ---- the engine reset register
 
 -- A value that is written there resets an engine where its bit 0 is set, or the engine's own bit.
-abbrev pub resets : ℕ → Engine → Bool
+abbrev pub resets : ℕ → EngineBlock → Bool
 resets value e = has_bit value 0 || has_bit value e.reset_bit
 
 -- which engines it resets, by number

@@ -4,8 +4,8 @@ use Rattle.std.specs.List.{slice_split, All}
 use Rattle.std.proofs.lemmas.List.Folds.{list_any_at}
 use Rattle.std.proofs.lemmas.Bool.{cases_lt, lt-ltb}
 use Rattle.std.proofs.lemmas.List.Splits.{slice_split_at, length-slice_split}
-use Rattle.gv_text.specs.Grammar.{line_of, line_of_words, words_of, says_nothing}
-use Rattle.gv_text.specs.Number.{◌>>=◌, check}
+use Rattle.gv_text.specs.Grammar.{line_of, line_of_words, line_words, says_nothing}
+use Rattle.gv_text.specs.Number.{◌>>=◌, provided}
 use Rattle.gv_text.specs.Script.{Script, script_of, script_limit, script_from, script_on, ends, nothing_known, accepted, accepts, is_line_feed, lines_of, lines_of_parts}
 use Rattle.gv_text.specs.declared.ending.Ending.{Ending}
 use Rattle.gv_text.specs.declared.ending.Ending.TheVariants.{BadScript, TooLong}
@@ -50,10 +50,10 @@ relates-some P s t (Some z) (Some y) x is h = (y, refl, subst (λ z. P (coming s
 -- ---- no line of more than 256 bytes is accepted
 
 line_of-long : (bytes : List ℕ) → 256 < length bytes → line_of bytes ≡ None
-line_of-long bytes long = ap (λ b. if b then None else (if says_nothing bytes then Some Blank else line_of_words (words_of bytes))) (lt-ltb 256 (length bytes) long)
+line_of-long bytes long = ap (λ b. if b then None else (if says_nothing bytes then Some Blank else line_of_words (line_words bytes))) (lt-ltb 256 (length bytes) long)
 
 accepted-long : (known : Known) (bytes : List ℕ) → 256 < length bytes → accepted known bytes ≡ None
-accepted-long known bytes long = ap (λ (o : Option Line). o >>= λ line. check (accepts known line) line) (line_of-long bytes long)
+accepted-long known bytes long = ap (λ (o : Option Line). o >>= λ line. provided (accepts known line) line) (line_of-long bytes long)
 
 long-refused : (whole : Bool) (known : Known) (n : ℕ) (lines : List (List ℕ)) → BeginsLong lines → script_from whole known n lines ≡ ends (BadScript n)
 long-refused whole known n [] long = absurd long

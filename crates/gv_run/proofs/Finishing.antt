@@ -8,14 +8,14 @@ use Rattle.gv_text.specs.declared.ending.Ending.{Ending}
 use Rattle.gv_text.specs.declared.ending.Ending.TheVariants.{Done}
 use Rattle.gv_gpu.specs.Change.{Ran}
 use Rattle.gv_gpu.specs.Device.{Device}
-use Rattle.gv_lines.specs.Outlet.{Got, Gets, GetsFront, Passes, got, in_sink}
+use Rattle.gv_lines.specs.Outlet.{Delivery, Gets, GetsFront, Passes, got, in_sink}
 use Rattle.gv_lines.specs.declared.outlet.Outlet.{Outlet}
 use Rattle.gv_lines.proofs.Passing.{gets-more, passes-more}
-use Rattle.gv_private.specs.Turn.{JournalEntry as PrivateEntry}
+use Rattle.gv_private.specs.Turn.{RanCommand}
 use Rattle.gv_machine.specs.Machine.{Machine, new_machine}
 use Rattle.gv_machine.specs.Report.{said_all, ending_said, course_of, script_said, report_of, commands_in}
 use Rattle.gv_machine.proofs.Scripts.{report_of-script, ending_of-script, machine_of-script, commands_in-script}
-use Rattle.gv_vgpu.specs.Changes.{entry_of}
+use Rattle.gv_vgpu.specs.Changes.{journal_entry}
 use Rattle.gv_mediator.specs.Laws.{HasMemories}
 use Rattle.gv_run.specs.Streamed.{WritesFront, Begun, RunsLines, Finishes}
 use Rattle.gv_run.specs.Tied.{machine_in}
@@ -26,13 +26,13 @@ use Rattle.gv_run.proofs.Saying.{front-none, passes-front, said-parts, sink-appe
 -- before anything was run or written
 pub begun-none : (first : Option (List ℕ)) (d : Device) (a : Option (List ℕ)) → IfSome first (λ bytes. Begun bytes d d a a)
 begun-none None d a = tt
-begun-none (Some bytes) d a = record { written = front-none (report_of bytes) (in_sink a); ran = ran-before (ran-none d) (map entry_of (commands_in bytes)) }
+begun-none (Some bytes) d a = record { written = front-none (report_of bytes) (in_sink a); ran = ran-before (ran-none d) (map journal_entry (commands_in bytes)) }
 
 -- what is said at the end
 abbrev end_text : Ending → Device → Stage → List ℕ
 end_text how d stage = text_of (ending_said how (machine_in d stage))
 
-module _ (all : Script) {how : Ending} {start d : Device} {stage : Stage} {held : List ℕ} {a b : Got} (lines : RunsLines all how start d stage held a b) (c : Got) where
+module _ (all : Script) {how : Ending} {start d : Device} {stage : Stage} {held : List ℕ} {a b : Delivery} (lines : RunsLines all how start d stage held a b) (c : Delivery) where
   whole : text_of (said_all (course_of new_machine all).came) ++ end_text how d stage ≡ text_of (script_said new_machine all)
   whole =
       let done = course_of new_machine all in
@@ -56,8 +56,8 @@ module _ (all : Script) {how : Ending} {start d : Device} {stage : Stage} {held 
 -- ---- the script of a source, whose report goes to a sink
 
 module _ (bytes : List ℕ) {how : Ending} {start d : Device} {stage : Stage} {held : List ℕ} {a b : Option (List ℕ)} (lines : RunsLines (script_of bytes) how start d stage held (in_sink a) (in_sink b)) (outlet : Outlet) (c : Option (List ℕ)) where
-  all_ran : Ran start d (map entry_of (commands_in bytes))
-  all_ran = subst (λ (ran : List PrivateEntry). Ran start d (map entry_of ran)) (sym (commands_in-script bytes (script_of bytes) refl)) lines.ran
+  all_ran : Ran start d (map journal_entry (commands_in bytes))
+  all_ran = subst (λ (ran : List RanCommand). Ran start d (map journal_entry ran)) (sym (commands_in-script bytes (script_of bytes) refl)) lines.ran
 
   pub finish-begun : GetsFront (held ++ text_of (ending_said how (machine_in d stage))) (in_sink b) (got outlet c) → Begun bytes start d a c
   finish-begun front = record {

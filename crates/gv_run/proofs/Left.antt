@@ -6,13 +6,13 @@ use Rattle.gv_text.specs.Script.{Script, onto_script}
 use Rattle.gv_text.specs.declared.script_line.Line.{Line}
 use Rattle.gv_gpu.specs.Change.{Ran, RanPart}
 use Rattle.gv_gpu.specs.Device.{Device, JournalEntry}
-use Rattle.gv_private.specs.Turn.{JournalEntry as PrivateEntry}
+use Rattle.gv_private.specs.Turn.{RanCommand}
 use Rattle.gv_machine.specs.Course.{Course, onto}
 use Rattle.gv_machine.specs.Machine.{Machine, Done, line_course, ran_all}
 use Rattle.gv_machine.specs.Report.{said_all, course_of}
 use Rattle.gv_machine.proofs.Left.{Left, LeftOf, Played, left-all, left-none, left-whole, goes-on, began, line-done, line-began}
 use Rattle.gv_machine.proofs.Text.{said_none}
-use Rattle.gv_vgpu.specs.Changes.{entry_of}
+use Rattle.gv_vgpu.specs.Changes.{journal_entry}
 use Rattle.gv_run.specs.Tied.{Plays, entries_in}
 
 -- ---- what ran
@@ -40,34 +40,34 @@ ran-whole {d} {e} {xs} ran = record { left = []; part = record { done = xs; ran 
 pub ran-before : {d e : Device} → Ran d e [] → (xs : List JournalEntry) → RanPart d e xs
 ran-before {d} {e} none xs = record { left = xs; part = record { done = []; ran = none; front = refl } }
 
-entries-append : (xs ys : List PrivateEntry) → map entry_of (xs ++ ys) ≡ map entry_of xs ++ map entry_of ys
-entries-append xs ys = map-append entry_of xs ys
+entries-append : (xs ys : List RanCommand) → map journal_entry (xs ++ ys) ≡ map journal_entry xs ++ map journal_entry ys
+entries-append xs ys = map-append journal_entry xs ys
 
 -- ---- a course
 
 -- What was done over the shared device and the course c of what is left are the whole course.
 pub record Goes (all : Course Machine Done) (before : List ℕ) (start : Device) (c : Course Machine Done) (now : List ℕ) (d : Device) : Type 0 where
-  pub ran : List PrivateEntry
-  pub done : Ran start d (map entry_of ran)
+  pub ran : List RanCommand
+  pub done : Ran start d (map journal_entry ran)
   pub left : Left all before c now ran
 
 pub goes-all : (all : Course Machine Done) (before : List ℕ) (start : Device) → Goes all before start all before start
 goes-all all before start = record { ran = []; done = ran-none start; left = left-all all before }
 
 -- where a front of commands ran, by all that ran before
-front-of : {start d e : Device} (ran whole some : List PrivateEntry) (rest : List PrivateEntry) → Ran start d (map entry_of ran) → (ran ++ whole) ++ rest ≡ some → RanPart d e (map entry_of whole) → RanPart start e (map entry_of some)
+front-of : {start d e : Device} (ran whole some : List RanCommand) (rest : List RanCommand) → Ran start d (map journal_entry ran) → (ran ++ whole) ++ rest ≡ some → RanPart d e (map journal_entry whole) → RanPart start e (map journal_entry some)
 front-of {start} {d} {e} ran whole some rest done is part = record {
-  left = part.left ++ map entry_of rest;
+  left = part.left ++ map journal_entry rest;
   part = record {
-    done = map entry_of ran ++ part.part.done;
+    done = map journal_entry ran ++ part.part.done;
     ran = ran-then done part.part.ran;
     front =
-        append_assoc (map entry_of ran) part.part.done (part.left ++ map entry_of rest)
-        ∙ ap (λ (z : List JournalEntry). map entry_of ran ++ z) (sym (append_assoc part.part.done part.left (map entry_of rest)) ∙ ap (λ (z : List JournalEntry). z ++ map entry_of rest) part.part.front)
-        ∙ sym (append_assoc (map entry_of ran) (map entry_of whole) (map entry_of rest))
-        ∙ ap (λ (z : List JournalEntry). z ++ map entry_of rest) (sym (entries-append ran whole))
+        append_assoc (map journal_entry ran) part.part.done (part.left ++ map journal_entry rest)
+        ∙ ap (λ (z : List JournalEntry). map journal_entry ran ++ z) (sym (append_assoc part.part.done part.left (map journal_entry rest)) ∙ ap (λ (z : List JournalEntry). z ++ map journal_entry rest) part.part.front)
+        ∙ sym (append_assoc (map journal_entry ran) (map journal_entry whole) (map journal_entry rest))
+        ∙ ap (λ (z : List JournalEntry). z ++ map journal_entry rest) (sym (entries-append ran whole))
         ∙ sym (entries-append (ran ++ whole) rest)
-        ∙ ap (λ (z : List PrivateEntry). map entry_of z) is;
+        ∙ ap (λ (z : List RanCommand). map journal_entry z) is;
   };
 }
 
@@ -86,17 +86,17 @@ module _ (all : Course Machine Done) (before : List ℕ) (start : Device) where
     stops-within e part =
         front-of kept.ran (ran_all first.came) (ran_all all.came) (ran_all rest.came) kept.done (whole-began (ran_all first.came) [] (append-nil (ran_all first.came))) part
       where
-        whole-began : (some more : List PrivateEntry) → some ++ more ≡ ran_all first.came → (kept.ran ++ some) ++ (more ++ ran_all rest.came) ≡ ran_all all.came
+        whole-began : (some more : List RanCommand) → some ++ more ≡ ran_all first.came → (kept.ran ++ some) ++ (more ++ ran_all rest.came) ≡ ran_all all.came
         whole-began some more front = began all before first rest now kept.ran kept.left some more front
 
   -- what ran is a front of all
   pub goes-part : (c : Course Machine Done) (now : List ℕ) (d : Device) → Goes all before start c now d → RanPart start d (entries_in all.came)
   goes-part c now d kept = record {
-    left = map entry_of (ran_all c.came);
+    left = map journal_entry (ran_all c.came);
     part = record {
-      done = map entry_of kept.ran;
+      done = map journal_entry kept.ran;
       ran = kept.done;
-      front = sym (entries-append kept.ran (ran_all c.came)) ∙ ap (λ (z : List PrivateEntry). map entry_of z) kept.left.journal;
+      front = sym (entries-append kept.ran (ran_all c.came)) ∙ ap (λ (z : List RanCommand). map journal_entry z) kept.left.journal;
     };
   }
 
@@ -111,15 +111,15 @@ module _ (all : Course Machine Done) (before : List ℕ) (start : Device) where
       record {
         machine = whole.machine;
         report = whole.report;
-        ran = subst (λ (l : List PrivateEntry). Ran start d (map entry_of l)) whole.journal kept.done;
+        ran = subst (λ (l : List RanCommand). Ran start d (map journal_entry l)) whole.journal kept.done;
       }
 
 -- ---- the whole script
 
 -- what is left of a script is its ending too
 pub record GoesOf (m0 : Machine) (before : List ℕ) (start : Device) (all : Script) (m : Machine) (now : List ℕ) (d : Device) (rest : Script) : Type 0 where
-  pub ran : List PrivateEntry
-  pub done : Ran start d (map entry_of ran)
+  pub ran : List RanCommand
+  pub done : Ran start d (map journal_entry ran)
   pub left : LeftOf m0 before all m now ran rest
 
 pub goes-whole : (m0 : Machine) (before : List ℕ) (start : Device) (all : Script) → GoesOf m0 before start all m0 before start all

@@ -12,7 +12,7 @@ use Rattle.gv_types.specs.declared.ids.GuestId.{GuestId}
 use Rattle.gv_gpu.specs.Change.{RanPart}
 use Rattle.gv_gpu.specs.Device.{Device}
 use Rattle.gv_private.specs.Inputs.{Input, event}
-use Rattle.gv_cmd.specs.Effect.{base_of}
+use Rattle.gv_types.specs.Engines.{register_base}
 use Rattle.gv_machine.specs.Course.{onto, play}
 use Rattle.gv_machine.specs.Machine.{Machine, input_course, writes_of, port_writes}
 use Rattle.gv_machine.proofs.Joined.{length-input}
@@ -92,7 +92,7 @@ inside-place Eight at i n end h within = omega arith
 
 pub port-first : (guest : GuestId) (engine : ℕ) (values : List ℕ) (i : ℕ) → i < length values
     → port_writes guest engine (drop i values)
-    ≡ event (Write guest Registers Four (base_of engine + 0x230) (get_or values i 0)) ∷ port_writes guest engine (drop (i + 1) values)
+    ≡ event (Write guest Registers Four (register_base engine + 0x230) (get_or values i 0)) ∷ port_writes guest engine (drop (i + 1) values)
 port-first guest engine values i there = at_drop_more (port_writes guest engine) values i 0 there
 
 abbrev PortFits : ℕ → Type 0
@@ -105,5 +105,5 @@ port-of false false true = (refl, lit< tt)
 port-of false false false = (refl, lit< tt)
 
 -- a port is a register of four bytes
-pub port-fits : (engine : ℕ) → ((base_of engine + 0x230) % 4 ≡ 0) × (base_of engine + 0x230 < 0x1000000)
+pub port-fits : (engine : ℕ) → ((register_base engine + 0x230) % 4 ≡ 0) × (register_base engine + 0x230 < 0x1000000)
 port-fits engine = port-of (eqb engine 0) (eqb engine 1) (eqb engine 2)

@@ -13,7 +13,7 @@ use Rattle.gv_gen.specs.Script.{script_of_number}
 use Rattle.gv_gen.proofs.Accepted.{all_accepted, first-accepted}
 use Rattle.gv_gpu.specs.Change.{Ran, RanPart}
 use Rattle.gv_gpu.specs.Device.{Device}
-use Rattle.gv_lines.specs.Outlet.{Got, GetsFront, Passes}
+use Rattle.gv_lines.specs.Outlet.{Delivery, GetsFront, Passes}
 use Rattle.gv_lines.proofs.Passing.{passes-none, passes-more, passes-trans}
 use Rattle.gv_machine.specs.Machine.{Machine, new_machine, line_course}
 use Rattle.gv_machine.specs.Report.{said_all, course_of, script_said}
@@ -26,7 +26,7 @@ use Rattle.gv_run.proofs.WholeScript.{said-front, runs-lines, script-front}
 
 -- Lines of a script were run: what they said is held, or an outlet got it. The script that is left is that of the
 -- lines that are left, and these are accepted.
-pub record Making (all : Script) (start : Device) (old : Got) (lines : List Line) (known : Known) (m : Machine) (held : List ℕ) (d : Device) (now : Got) : Type 0 where
+pub record Making (all : Script) (start : Device) (old : Delivery) (lines : List Line) (known : Known) (m : Machine) (held : List ℕ) (d : Device) (now : Delivery) : Type 0 where
   pub number : ℕ
   pub said : List ℕ
   pub passed : Passes said held old now
@@ -34,7 +34,7 @@ pub record Making (all : Script) (start : Device) (old : Got) (lines : List Line
   pub accepted : AreAccepted known lines
 
 -- before the first line
-making-new : (number : ℕ) (start : Device) (old : Got) → Making (script_made number) start old (script_of_number number) nothing_known new_machine [] start old
+making-new : (number : ℕ) (start : Device) (old : Delivery) → Making (script_made number) start old (script_of_number number) nothing_known new_machine [] start old
 unfolding script_made
 making-new number start old = record {
   number = 1;
@@ -44,7 +44,7 @@ making-new number start old = record {
   accepted = all_accepted number;
 }
 
-pub making-start : (number : ℕ) (start : Device) (old : Got) (lines : List Line) (known : Known) (m : Machine) (held : List ℕ) → lines ≡ script_of_number number → known ≡ nothing_known → m ≡ new_machine → held ≡ [] → Making (script_made number) start old lines known m held start old
+pub making-start : (number : ℕ) (start : Device) (old : Delivery) (lines : List Line) (known : Known) (m : Machine) (held : List ℕ) → lines ≡ script_of_number number → known ≡ nothing_known → m ≡ new_machine → held ≡ [] → Making (script_made number) start old lines known m held start old
 making-start number start old lines known m held all nothing none empty =
     subst (λ (l : List Line). Making (script_made number) start old l known m held start old) (sym all)
     (subst (λ (k : Known). Making (script_made number) start old (script_of_number number) k m held start old) (sym nothing)
@@ -52,7 +52,7 @@ making-start number start old lines known m held all nothing none empty =
     (subst (λ (h : List ℕ). Making (script_made number) start old (script_of_number number) nothing_known new_machine h start old) (sym empty)
     (making-new number start old))))
 
-module _ {all : Script} {start : Device} {old : Got} {lines : List Line} {known : Known} {m : Machine} {held : List ℕ} {d : Device} {now : Got} (kept : Making all start old lines known m held d now) where
+module _ {all : Script} {start : Device} {old : Delivery} {lines : List Line} {known : Known} {m : Machine} {held : List ℕ} {d : Device} {now : Delivery} (kept : Making all start old lines known m held d now) where
   -- a front of the report
   pub making-front : GetsFront (text_of (script_said new_machine all)) old now
   making-front = script-front all old now (said-front start all m kept.said d _ kept.left held old now kept.passed)
@@ -72,7 +72,7 @@ module _ {all : Script} {start : Device} {old : Got} {lines : List Line} {known 
   })
 
   -- more of what is held passes
-  pub making-passed : (later : List ℕ) (b : Got) → Passes held later now b → Making all start old lines known m later d b
+  pub making-passed : (later : List ℕ) (b : Delivery) → Passes held later now b → Making all start old lines known m later d b
   making-passed later b passes = record {
     number = kept.number;
     said = kept.said;
@@ -128,7 +128,7 @@ module _ {all : Script} {start : Device} {old : Got} {lines : List Line} {known 
 -- ---- the script of a number
 
 module _ (number : ℕ) where
-  pub made-front : (a b : Got) → GetsFront (text_of (script_said new_machine (script_made number))) a b → GetsFront (report_made number) a b
+  pub made-front : (a b : Delivery) → GetsFront (text_of (script_said new_machine (script_made number))) a b → GetsFront (report_made number) a b
   unfolding report_made
   made-front a b front = front
 

@@ -12,7 +12,7 @@ use Rattle.gv_gpu.specs.Change.{Ran, RanPart}
 use Rattle.gv_gpu.specs.Device.{Device, JournalEntry}
 use Rattle.gv_private.specs.Device.{PrivateDevice, new_device}
 use Rattle.gv_private.specs.Inputs.{turns, answer}
-use Rattle.gv_private.specs.Turn.{JournalEntry as PrivateEntry, turned}
+use Rattle.gv_private.specs.Turn.{RanCommand, turned}
 use Rattle.gv_machine.specs.Course.{Course, play}
 use Rattle.gv_machine.specs.Machine.{Machine, Happened, happened, no_ranges, device_at, event_course, input_course, ran_of}
 use Rattle.gv_machine.specs.Report.{alarms_said, column_of, counts_of, turn_said}
@@ -22,7 +22,7 @@ use Rattle.gv_machine.proofs.OwnCourse.{set_own}
 use Rattle.gv_machine.proofs.Text.{said_more, said_none}
 use Rattle.gv_machine.proofs.Turns.{turns_from, turns-more, length-turns, alarms-more, counts-more, counts-small}
 use Rattle.gv_mediator.specs.Event.{event_done, entries_ran}
-use Rattle.gv_vgpu.specs.Changes.{entry_of}
+use Rattle.gv_vgpu.specs.Changes.{journal_entry}
 use Rattle.gv_text.specs.Report.{text_of}
 use Rattle.gv_text.specs.declared.report_line.ReportLine.{ReportLine}
 use Rattle.gv_run.specs.Lines.{turns_line}
@@ -33,7 +33,7 @@ abbrev alarms : List Happened → List ReportLine
 alarms came = flat_map (λ (h : Happened). alarms_said h.reply) came
 
 abbrev ran_entries : List Happened → List JournalEntry
-ran_entries came = map entry_of (ran_of came)
+ran_entries came = map journal_entry (ran_of came)
 
 -- the engine's owner is guest g
 module _ (m0 : Machine) (engine : EngineId) where
@@ -76,11 +76,11 @@ module _ (m0 : Machine) (engine : EngineId) where
       done = ran_entries (so_far j).came;
       ran = ran;
       front =
-          sym (map-append entry_of (ran_of (so_far j).came) (ran_of (behind j k).came))
-          ∙ ap (λ (z : List PrivateEntry). map entry_of z) (sym (flat_map-append (λ (h : Happened). h.ran) (so_far j).came (behind j k).came))
+          sym (map-append journal_entry (ran_of (so_far j).came) (ran_of (behind j k).came))
+          ∙ ap (λ (z : List RanCommand). map journal_entry z) (sym (flat_map-append (λ (h : Happened). h.ran) (so_far j).came (behind j k).came))
           ∙ ap ran_entries (sym (came-split j k))
           ∙ ap (λ n. ran_entries (so_far n).came) is
-          ∙ ap (λ (z : List PrivateEntry). map entry_of z) (sym (append-nil (ran_of (so_far count).came)));
+          ∙ ap (λ (z : List RanCommand). map journal_entry z) (sym (append-nil (ran_of (so_far count).came)));
     };
   }
 
@@ -107,7 +107,7 @@ module _ (m0 : Machine) (engine : EngineId) where
 
   -- all of what runs in so many turns ran
   pub turning-ran : {count : ℕ} {start : Device} {before : List ℕ} {m : Machine} {now counts : List ℕ} {owner : GuestId} {d : Device} → Turning count start before m now counts owner d → Ran start d (entries_in (input_course m0 (turns engine count)).came)
-  turning-ran {count} {start} {before} {m} {now} {counts} {owner} {d} turning = subst (λ (l : List PrivateEntry). Ran start d (map entry_of l)) (sym (append-nil (ran_of (so_far count).came))) turning.ran
+  turning-ran {count} {start} {before} {m} {now} {counts} {owner} {d} turning = subst (λ (l : List RanCommand). Ran start d (map journal_entry l)) (sym (append-nil (ran_of (so_far count).came))) turning.ran
 
   line-is : (count : ℕ) (owner : GuestId) → (0 < count → owner.0 ≡ p.number) → turns_line count owner engine (counts_of (so_far count).came) ≡ turn_said engine (so_far count).came
   line-is zero owner named = refl
@@ -124,7 +124,7 @@ module _ (m0 : Machine) (engine : EngineId) where
         ∙ ap (λ (lines : List ReportLine). now ++ text_of lines) (line-is count owner turning.named)
         ∙ said_more before now (alarms (so_far count).came) (turn_said engine (so_far count).came) turning.report
         ∙ ap (λ (lines : List ReportLine). before ++ text_of lines) (sym (append-nil (alarms (so_far count).came ++ turn_said engine (so_far count).came)));
-    ran = subst (λ (l : List PrivateEntry). Ran start d (map entry_of l)) (sym (append-nil (ran_of (so_far count).came))) turning.ran;
+    ran = subst (λ (l : List RanCommand). Ran start d (map journal_entry l)) (sym (append-nil (ran_of (so_far count).came))) turning.ran;
   }
 
   -- the owner is there
@@ -157,8 +157,8 @@ module _ (m0 : Machine) (engine : EngineId) where
 
       entries-more : ran_entries ((so_far i).came ++ next i ∷ []) ≡ ran_entries (so_far i).came ++ ran_entries (next i ∷ [])
       entries-more =
-          ap (λ (z : List PrivateEntry). map entry_of z) (flat_map-append (λ (h : Happened). h.ran) (so_far i).came (next i ∷ []))
-          ∙ map-append entry_of (ran_of (so_far i).came) (ran_of (next i ∷ []))
+          ap (λ (z : List RanCommand). map journal_entry z) (flat_map-append (λ (h : Happened). h.ran) (so_far i).came (next i ∷ []))
+          ∙ map-append journal_entry (ran_of (so_far i).came) (ran_of (next i ∷ []))
 
       module _ (e : Device) (ran : Ran d e (entries_ran (event_done m (Turn engine)).came)) where
         ran-more : Ran start e (ran_entries (so_far (i + 1)).came)

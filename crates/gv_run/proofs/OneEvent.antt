@@ -10,7 +10,7 @@ use Rattle.gv_gpu.specs.Device.{Device, JournalEntry}
 use Rattle.gv_gtt.specs.Gtt.{number_of}
 use Rattle.gv_sched.specs.Rota.{owner_of}
 use Rattle.gv_private.specs.Inputs.{Input, event, answer}
-use Rattle.gv_private.specs.Turn.{JournalEntry as PrivateEntry}
+use Rattle.gv_private.specs.Turn.{RanCommand}
 use Rattle.gv_machine.specs.Course.{play}
 use Rattle.gv_machine.specs.Machine.{Machine, Happened, Receiver, device, event_receiver, received, device_at, input_course, inputs_in, owner_told, owner_after, ran_of}
 use Rattle.gv_machine.specs.Report.{told, said_all}
@@ -21,7 +21,7 @@ use Rattle.gv_machine.proofs.OwnCourse.{IsWhole as Whole, whole-played}
 use Rattle.gv_machine.proofs.Rotas.{OwnersAreThere, next-there}
 use Rattle.gv_vgpu.specs.Vgpu.{private_of}
 use Rattle.gv_vgpu.specs.declared.vgpu.Vgpu.{Vgpu}
-use Rattle.gv_vgpu.specs.Changes.{entry_of}
+use Rattle.gv_vgpu.specs.Changes.{journal_entry}
 use Rattle.gv_mediator.specs.Rota.{owners_in, owns}
 use Rattle.gv_mediator.specs.Event.{IsEvent, received_by, event_done, entries_ran}
 use Rattle.gv_mediator.specs.Tied.{Tied, machine_of}
@@ -92,7 +92,7 @@ module _ (m : Machine) (one : Event) (g : ℕ) (is : event_receiver m.owners one
   event-entries : entries_ran (event_done m one).came ≡ entries_in (input_course m (event one)).came
   event-entries =
       ap (λ (r : Receiver). entries_ran (received_by m one r).came) is
-      ∙ ap (λ (z : List PrivateEntry). map entry_of z) (sym (append-nil (ran_of (received_by m one (device g)).came)))
+      ∙ ap (λ (z : List RanCommand). map journal_entry z) (sym (append-nil (ran_of (received_by m one (device g)).came)))
       ∙ sym (ap (λ (r : Receiver). entries_in (received m (event one) r).came) is)
 
   module _ (reply : Reply) (replied : HasReplied m one reply) where

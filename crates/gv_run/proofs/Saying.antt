@@ -5,7 +5,7 @@ use Rattle.std.proofs.lemmas.Bool.{cases_lt}
 use Rattle.std.proofs.lemmas.List.{take-append-le, take-append-drop, take_all}
 use Rattle.std.proofs.Math.Seq.{take-append_seam}
 use Rattle.gv_outside.proofs.Pieces.{front_more}
-use Rattle.gv_lines.specs.Outlet.{Got, Gets, GetsFront, Passes, got, in_sink, in_totals}
+use Rattle.gv_lines.specs.Outlet.{Delivery, Gets, GetsFront, Passes, got, in_sink, in_totals}
 use Rattle.gv_lines.specs.declared.outlet.Outlet.{Outlet}
 use Rattle.gv_lines.specs.declared.outlet.Outlet.TheVariants as outlets
 use Rattle.gv_lines.proofs.Passing.{gets-none, gets-more, passes-more, passes-none, passes-trans}
@@ -14,11 +14,11 @@ use Rattle.gv_text.specs.declared.report_line.ReportLine.{ReportLine}
 use Rattle.gv_run.specs.Streamed.{WritesFront}
 use Rattle.gv_machine.proofs.Text.{said_more}
 
-pub front-none : (text : List ℕ) (a : Got) → GetsFront text a a
+pub front-none : (text : List ℕ) (a : Delivery) → GetsFront text a a
 front-none text a = (0, gets-none a)
 
 -- a front of a text is one of a longer text
-pub front-longer : (xs ys : List ℕ) (a b : Got) → GetsFront xs a b → GetsFront (xs ++ ys) a b
+pub front-longer : (xs ys : List ℕ) (a b : Delivery) → GetsFront xs a b → GetsFront (xs ++ ys) a b
 front-longer xs ys a b front =
     let n = front.0 in
     ⊎_elim
@@ -26,42 +26,42 @@ front-longer xs ys a b front =
     (λ (within : n ≤ length xs). (n, subst (Gets a b) (sym (take-append-le n xs ys within)) front.1))
     (cases_lt (length xs) n)
 
-pub passes-part : (xs held : List ℕ) (a b : Got) → Passes xs held a b → GetsFront xs a b
+pub passes-part : (xs held : List ℕ) (a b : Delivery) → Passes xs held a b → GetsFront xs a b
 passes-part xs held a b passes = (passes.count, passes.written)
 
 -- of what is held, a front is written then
-pub passes-front : (xs held : List ℕ) (a b c : Got) → Passes xs held a b → GetsFront held b c → GetsFront xs a c
+pub passes-front : (xs held : List ℕ) (a b c : Delivery) → Passes xs held a b → GetsFront held b c → GetsFront xs a c
 passes-front xs held a b c passes front =
     let m = passes.count in
     let n = front.0 in
     (m + n, subst (Gets a c) (front_more m n xs) (gets-more a b c (take m xs) (take n (drop m xs)) passes.written (subst (λ l. Gets b c (take n l)) passes.rest front.1)))
 
 -- where nothing is held, all was written
-pub passes-all : (xs : List ℕ) (a b : Got) → Passes xs [] a b → Gets a b xs
+pub passes-all : (xs : List ℕ) (a b : Delivery) → Passes xs [] a b → Gets a b xs
 passes-all xs a b passes =
     let n = passes.count in
     subst (Gets a b) (sym (append-nil (take n xs)) ∙ ap (λ l. take n xs ++ l) passes.rest ∙ take-append-drop n xs) passes.written
 
 -- Of a text all but `left` was told; what of that isn't written yet is held.
-pub record Saying (all left held : List ℕ) (old new : Got) : Type 0 where
+pub record Saying (all left held : List ℕ) (old new : Delivery) : Type 0 where
   pub said : List ℕ
   pub passed : Passes said held old new
   pub whole : said ++ left ≡ all
 
-module _ (all left held : List ℕ) (a b : Got) (saying : Saying all left held a b) where
+module _ (all left held : List ℕ) (a b : Delivery) (saying : Saying all left held a b) where
   pub saying-part : GetsFront all a b
   saying-part = subst (λ l. GetsFront l a b) saying.whole (front-longer saying.said left a b (passes-part saying.said held a b saying.passed))
 
   -- a further part of the text is told
   module _ (text later : List ℕ) (is : saying.said ++ text ++ later ≡ all) where
-    pub saying-more : (now : List ℕ) (c : Got) → Passes (held ++ text) now b c → Saying all later now a c
+    pub saying-more : (now : List ℕ) (c : Delivery) → Passes (held ++ text) now b c → Saying all later now a c
     saying-more now c passes = record {
       said = saying.said ++ text;
       passed = passes-trans (saying.said ++ text) (held ++ text) now a b c (passes-more saying.said held text a b saying.passed) passes;
       whole = is;
     }
 
-    pub saying-front : (c : Got) → GetsFront (held ++ text) b c → GetsFront all a c
+    pub saying-front : (c : Delivery) → GetsFront (held ++ text) b c → GetsFront all a c
     saying-front c front = subst (λ l. GetsFront l a c) is
         (front-longer (saying.said ++ text) later a c (passes-front (saying.said ++ text) (held ++ text) a b c (passes-more saying.said held text a b saying.passed) front))
 
@@ -69,13 +69,13 @@ module _ (all left held : List ℕ) (a b : Got) (saying : Saying all left held a
   pub saying-done : saying.said ≡ all → Passes all held a b
   saying-done is = subst (λ l. Passes l held a b) is saying.passed
 
-pub saying-all : (before text : List ℕ) (a : Got) → Saying (before ++ text) text before a a
+pub saying-all : (before text : List ℕ) (a : Delivery) → Saying (before ++ text) text before a a
 saying-all before text a = record { said = before; passed = passes-none before a; whole = λ _. before ++ text }
 
 -- ---- report lines
 
 -- all but the last line was told
-pub record TellsFront (before : List ℕ) (all : List ReportLine) (last : ReportLine) (held : List ℕ) (old new : Got) : Type 0 where
+pub record TellsFront (before : List ℕ) (all : List ReportLine) (last : ReportLine) (held : List ℕ) (old new : Delivery) : Type 0 where
   pub front : List ReportLine
   pub whole : front ++ last ∷ [] ≡ all
   pub passed : Passes (before ++ text_of front) held old new
@@ -85,10 +85,10 @@ pub said-parts : (before : List ℕ) (xs ys : List ReportLine) → (before ++ te
 said-parts before xs ys = said_more before (before ++ text_of xs) xs ys (λ _. before ++ text_of xs)
 
 -- a front of the lines' text is one of the text of more lines
-pub front-said : (before : List ℕ) (xs ys : List ReportLine) (a b : Got) → GetsFront (before ++ text_of xs) a b → GetsFront (before ++ text_of (xs ++ ys)) a b
+pub front-said : (before : List ℕ) (xs ys : List ReportLine) (a b : Delivery) → GetsFront (before ++ text_of xs) a b → GetsFront (before ++ text_of (xs ++ ys)) a b
 front-said before xs ys a b front = subst (λ l. GetsFront l a b) (said-parts before xs ys) (front-longer (before ++ text_of xs) (text_of ys) a b front)
 
-module _ (before : List ℕ) (all : List ReportLine) (last : ReportLine) (held : List ℕ) (a b : Got) (tells : TellsFront before all last held a b) where
+module _ (before : List ℕ) (all : List ReportLine) (last : ReportLine) (held : List ℕ) (a b : Delivery) (tells : TellsFront before all last held a b) where
   pub last-told : (now : List ℕ) → now ≡ held ++ text_of (last ∷ []) → Passes (before ++ text_of all) now a b
   last-told now told =
       let passes = passes-more (before ++ text_of tells.front) held (text_of (last ∷ [])) a b tells.passed in

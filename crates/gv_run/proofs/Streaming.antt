@@ -18,13 +18,13 @@ use Rattle.gv_lines.specs.declared.next.Next.{Next}
 use Rattle.gv_lines.specs.declared.next.Next.TheVariants as nexts
 use Rattle.gv_lines.proofs.Passing.{PassesOn-none, PassesOn-more, PassesOn-trans}
 use Rattle.gv_lines.proofs.Handing.{HandsOut-trans}
-use Rattle.gv_private.specs.Turn.{JournalEntry as PrivateEntry}
+use Rattle.gv_private.specs.Turn.{RanCommand}
 use Rattle.gv_machine.specs.Machine.{Machine, new_machine, line_course, ran_all}
 use Rattle.gv_machine.specs.Report.{said_all, course_of, ending_said, report_of, commands_in}
 use Rattle.gv_machine.proofs.Left.{left_of, left-refused, left-ended, left-line}
 use Rattle.gv_machine.proofs.Scripts.{report_of-script, commands_in-script}
 use Rattle.gv_machine.proofs.Text.{said_none}
-use Rattle.gv_vgpu.specs.Changes.{entry_of}
+use Rattle.gv_vgpu.specs.Changes.{journal_entry}
 use Rattle.gv_run.specs.Headline.{TakesAtMost}
 use Rattle.gv_run.specs.Streamed.{WritesFront, StopsAtFault, Begun, RunsLines, ending_at, is_last, report_so_far, ending_so_far}
 use Rattle.gv_run.specs.Tied.{entries_in, machine_in}
@@ -61,8 +61,8 @@ report-front : (bytes : List ℕ) (a b : Option (List ℕ)) → WritesFront (tex
 report-front bytes a b front =
     subst (λ l. WritesFront l a b) (sym (report_of-script bytes (script_of bytes) refl)) (script-front (script_of bytes) (in_sink a) (in_sink b) front)
 
-part-of : (bytes : List ℕ) (start d : Device) → RanPart start d (entries_in (course_of new_machine (script_of bytes)).came) → RanPart start d (map entry_of (commands_in bytes))
-part-of bytes start d part = subst (λ (ran : List PrivateEntry). RanPart start d (map entry_of ran)) (sym (commands_in-script bytes (script_of bytes) refl)) part
+part-of : (bytes : List ℕ) (start d : Device) → RanPart start d (entries_in (course_of new_machine (script_of bytes)).came) → RanPart start d (map journal_entry (commands_in bytes))
+part-of bytes start d part = subst (λ (ran : List RanCommand). RanPart start d (map journal_entry ran)) (sym (commands_in-script bytes (script_of bytes) refl)) part
 
 -- ---- where reading has come
 

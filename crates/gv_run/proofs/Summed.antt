@@ -7,7 +7,7 @@ use Rattle.gv_text.specs.declared.ending.Ending.TheVariants.{Done}
 use Rattle.gv_gen.specs.Made.{script_made}
 use Rattle.gv_gpu.specs.Change.{Ran, RanPart}
 use Rattle.gv_gpu.specs.Device.{Device}
-use Rattle.gv_lines.specs.Outlet.{Got, Gets, GetsFront, got, in_sink, in_totals, totals_in}
+use Rattle.gv_lines.specs.Outlet.{Delivery, Gets, GetsFront, got, in_sink, in_totals, totals_in}
 use Rattle.gv_lines.specs.Summary.{no_totals, totals_after, summary_lines}
 use Rattle.gv_lines.specs.Writer.{PassesOn}
 use Rattle.gv_lines.specs.declared.outlet.Outlet.{Outlet}
@@ -53,7 +53,7 @@ module _ (number : ℕ) {start d : Device} where
   made-begun outlet a b front ran = made-untouched a b (alone-front (report_made number) no_totals outlet a b front) ran
 
   -- the lines were run
-  module _ {stage : Stage} {held : List ℕ} {middle : Got} (a : Option (List ℕ)) (lines : RunsLines (script_made number) Done start d stage held (in_totals no_totals a) middle) where
+  module _ {stage : Stage} {held : List ℕ} {middle : Delivery} (a : Option (List ℕ)) (lines : RunsLines (script_made number) Done start d stage held (in_totals no_totals a) middle) where
     all_ran : RanPart start d (entries_made number)
     all_ran = made-ran number start d (ran-whole lines.ran)
 

@@ -6,7 +6,7 @@ use Rattle.gv_text.specs.declared.ending.Ending.TheVariants as endings
 use Rattle.gv_gpu.specs.Device.{Device, JournalEntry}
 use Rattle.gv_machine.specs.Laws.{IsPrivate}
 use Rattle.gv_machine.specs.Report.{report_of, commands_in}
-use Rattle.gv_vgpu.specs.Changes.{entry_of}
+use Rattle.gv_vgpu.specs.Changes.{journal_entry}
 use Rattle.gv_run.specs.declared.call.Status.{Status}
 use Rattle.gv_run.specs.declared.call.Status.TheVariants.{Done, OutOfMemory, ReadFault, WriteFault, BadScript, TooLong, DeviceFault}
 use Rattle.gv_run.specs.declared.stopped.Stopped.{Stopped}
@@ -56,7 +56,7 @@ WritesPart old new source = (n : ℕ) × Appends old new (take n (report_of sour
 
 -- A front of the commands of the script's devices is in the journal.
 abbrev pub RanPartOf : Device → List ℕ → Type 0
-RanPartOf d source = (n : ℕ) × (d.journal ≡ take n (map entry_of (commands_in source)))
+RanPartOf d source = (n : ℕ) × (d.journal ≡ take n (map journal_entry (commands_in source)))
 
 -- a front of these commands is in the journal
 abbrev pub RanFrontOf : List JournalEntry → Device → Type 0

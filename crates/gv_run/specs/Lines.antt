@@ -2,7 +2,7 @@
 use Rattle.std.specs.Prelude.{◌≡◌, ℕ, zero, ◌+◌, ◌*◌, ◌%◌, ◌<◌, ◌≤◌, suc, List, [], ◌∷◌, Bool, true, false, Option, None, Some, length}
 use Rattle.std.specs.List.{AllByRecursion}
 use Rattle.gv_types.specs.Memory.{bytes_of}
-use Rattle.gv_types.specs.Places.{end_of}
+use Rattle.gv_types.specs.Places.{address_limit}
 use Rattle.gv_types.specs.declared.event.Event.{Event}
 use Rattle.gv_types.specs.declared.event.Event.TheVariants as events
 use Rattle.gv_types.specs.declared.ids.EngineId.{EngineId}
@@ -16,9 +16,9 @@ use Rattle.gv_text.specs.declared.script_line.Line.TheVariants.{Guest, Read, Wri
 
 -- The guest and the engine that a line names are there; address, values and frame are as the guest's device takes them.
 abbrev pub IsEventLine : Machine → Line → Type 0
-IsEventLine m (Read guest place width at) = (guest < length m.devices) × (at % bytes_of width ≡ 0) × (at < end_of place)
+IsEventLine m (Read guest place width at) = (guest < length m.devices) × (at % bytes_of width ≡ 0) × (at < address_limit place)
 IsEventLine m (Write guest place width at values) = (guest < length m.devices) × (at % bytes_of width ≡ 0)
-    × (at + bytes_of width * length values ≤ end_of place) × AllByRecursion (λ value. value < value_limit width) values
+    × (at + bytes_of width * length values ≤ address_limit place) × AllByRecursion (λ value. value < value_limit width) values
 IsEventLine m (Elsp guest engine second first) = (guest < length m.devices) × (engine < 4)
 IsEventLine m (Turn engine count) = (0 < length m.devices) × (engine < 4)
 IsEventLine m (Switch engine) = (0 < length m.devices) × (engine < 4)

@@ -7,7 +7,7 @@ use Rattle.gv_gpu.specs.Device.{Device, JournalEntry}
 use Rattle.gv_lines.specs.Summary.{no_totals, totals_after, summary_lines}
 use Rattle.gv_machine.specs.Machine.{Machine, new_machine, ran_all}
 use Rattle.gv_machine.specs.Report.{course_of, script_said}
-use Rattle.gv_vgpu.specs.Changes.{entry_of}
+use Rattle.gv_vgpu.specs.Changes.{journal_entry}
 use Rattle.gv_mediator.specs.Laws.{HasMemories}
 use Rattle.gv_text.specs.Report.{text_of}
 use Rattle.gv_run.specs.Streamed.{WritesFront}
@@ -26,7 +26,7 @@ machine_made number = (course_of new_machine (script_made number)).left
 
 -- the commands that the devices ran, in order, as the shared device's journal has them
 unfoldable pub entries_made : ℕ → List JournalEntry
-entries_made number = map entry_of (ran_all (course_of new_machine (script_made number)).came)
+entries_made number = map journal_entry (ran_all (course_of new_machine (script_made number)).came)
 
 -- whatever came: a front of the summary was written, and a front of the commands ran
 pub record MadePart (number : ℕ) (start d : Device) (old new : Option (List ℕ)) : Type 0 where

@@ -7,12 +7,12 @@ use Rattle.gv_text.specs.declared.ending.Ending.{Ending}
 use Rattle.gv_text.specs.declared.ending.Ending.TheVariants.{Done, BadScript, TooLong}
 use Rattle.gv_gpu.specs.Change.{Ran, RanPart}
 use Rattle.gv_gpu.specs.Device.{Device}
-use Rattle.gv_lines.specs.Outlet.{Got, GetsFront, Passes, in_sink}
+use Rattle.gv_lines.specs.Outlet.{Delivery, GetsFront, Passes, in_sink}
 use Rattle.gv_lines.specs.declared.next.Next.{Next}
 use Rattle.gv_lines.specs.declared.next.Next.TheVariants.{Line, LastLine, LongLine, End, PastLimit}
 use Rattle.gv_machine.specs.Machine.{new_machine}
 use Rattle.gv_machine.specs.Report.{said_all, course_of, report_of, ending_of, machine_of, commands_in}
-use Rattle.gv_vgpu.specs.Changes.{entry_of}
+use Rattle.gv_vgpu.specs.Changes.{journal_entry}
 use Rattle.gv_mediator.specs.Laws.{HasMemories}
 use Rattle.gv_run.specs.Tied.{entries_in, machine_in}
 use Rattle.gv_run.specs.declared.stage.Stage.{Stage}
@@ -44,10 +44,10 @@ pub record StopsAtFault (before after old new : Option (List ℕ)) : Type 0 wher
 -- whatever came: a front of the report was written, and a front of the commands ran
 pub record Begun (bytes : List ℕ) (start d : Device) (old new : Option (List ℕ)) : Type 0 where
   pub written : WritesFront (report_of bytes) old new
-  pub ran : RanPart start d (map entry_of (commands_in bytes))
+  pub ran : RanPart start d (map journal_entry (commands_in bytes))
 
 -- The lines of a script were run. Of what they said an outlet got a front, and the rest is held.
-pub record RunsLines (all : Script) (how : Ending) (start d : Device) (stage : Stage) (held : List ℕ) (old new : Got) : Type 0 where
+pub record RunsLines (all : Script) (how : Ending) (start d : Device) (stage : Stage) (held : List ℕ) (old new : Delivery) : Type 0 where
   pub ending : how ≡ all.ending
   pub machine : machine_in d stage ≡ (course_of new_machine all).left
   pub report : Passes (text_of (said_all (course_of new_machine all).came)) held old new
@@ -58,7 +58,7 @@ pub record Finishes (bytes : List ℕ) (how : Ending) (start d : Device) (old ne
   pub ending : how ≡ ending_of bytes
   pub report : Appends old new (report_of bytes)
   pub pages : how ≡ Done → HasMemories d (machine_of bytes)
-  pub ran : Ran start d (map entry_of (commands_in bytes))
+  pub ran : Ran start d (map journal_entry (commands_in bytes))
 
 -- the ending, where no line comes next, and it would be the line with this number
 abbrev pub ending_at : Next → ℕ → Option Ending

@@ -6,7 +6,7 @@ use Rattle.gv_gpu.specs.Device.{Device, JournalEntry, IsEmpty}
 use Rattle.gv_machine.specs.Course.{Course}
 use Rattle.gv_machine.specs.Machine.{Machine, Done, device_at, ran_all}
 use Rattle.gv_machine.specs.Report.{said_all}
-use Rattle.gv_vgpu.specs.Changes.{entry_of}
+use Rattle.gv_vgpu.specs.Changes.{journal_entry}
 use Rattle.gv_mediator.specs.First.{first_machine}
 use Rattle.gv_mediator.specs.Tied.{Tied, machine_of}
 use Rattle.gv_mediator.specs.declared.guest.Guest.{Guest}
@@ -104,7 +104,7 @@ pub record Agrees (d : Device) (known : Known) (stage : Stage) : Type 0 where
 
 -- the commands that ran, as the shared device's journal has them
 abbrev pub entries_in : List Done → List JournalEntry
-entries_in came = map entry_of (ran_all came)
+entries_in came = map journal_entry (ran_all came)
 
 -- A course was run over the shared device: the machine is what it leaves, its lines stand at the report's end, and its
 -- commands ran.

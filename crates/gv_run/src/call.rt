@@ -3,7 +3,7 @@ ghost use Rattle.std.specs.Io.KnownBytes.{Appends};
 ghost use Rattle.gv_outside.specs.Causes.{Rose};
 ghost use Rattle.gv_gpu.specs.Device.{IsEmpty, counted};
 ghost use Rattle.gv_machine.specs.Report.{report_of, ending_of, machine_of, commands_in};
-ghost use Rattle.gv_vgpu.specs.Changes.{entry_of};
+ghost use Rattle.gv_vgpu.specs.Changes.{journal_entry};
 ghost use Rattle.gv_mediator.specs.Laws.{HasMemories};
 ghost use Rattle.gv_text.specs.Script.{script_limit};
 ghost use Rattle.gv_run.specs.Headline.{NamesRun, NamesGen, NamesNothing, status_of, status_of_stop, tells_ending, TakesAtMost, WritesPart, WritesPrivate, RanPartOf, RanFrontOf};
@@ -95,7 +95,7 @@ fn run_source<S: Source, K: Sink, G: Gpu>(
     ensures part { IfSome (S.left source.old) (WritesPart (K.held sink.old) (K.held sink.new)) }
     ensures private { tells_ending result ≡ true → IfSome (S.left source.old) (WritesPrivate (K.held sink.old) (K.held sink.new)) }
     ensures taken { TakesAtMost (script_limit + 1) (S.left source.old) (S.left source.new) }
-    ensures journal { tells_ending result ≡ true → IfSome (S.left source.old) (λ bytes. (G.state gpu.new).journal ≡ map entry_of (commands_in bytes)) }
+    ensures journal { tells_ending result ≡ true → IfSome (S.left source.old) (λ bytes. (G.state gpu.new).journal ≡ map journal_entry (commands_in bytes)) }
     ensures journal_part { IfSome (S.left source.old) (RanPartOf (G.state gpu.new)) }
     ensures strays { (G.state gpu.new).strays ≡ 0 }
     ensures pages { result ≡ Status.Done → IfSome (S.left source.old) (λ bytes. HasMemories (G.state gpu.new) (machine_of bytes)) }
@@ -173,7 +173,7 @@ pub fn mediate<S: Source, K: Sink, G: Gpu>(
 
     // The device ran these devices' commands, touched no page of another guest, and has their memory.
     ensures journal { NamesRun (map (λ word. word.now) words.now)
-        → tells_ending result ≡ true → IfSome (S.left source.old) (λ bytes. (G.state gpu.new).journal ≡ map entry_of (commands_in bytes)) }
+        → tells_ending result ≡ true → IfSome (S.left source.old) (λ bytes. (G.state gpu.new).journal ≡ map journal_entry (commands_in bytes)) }
     ensures journal_part { NamesRun (map (λ word. word.now) words.now)
         → IfSome (S.left source.old) (RanPartOf (G.state gpu.new)) }
     ensures strays { (G.state gpu.new).strays ≡ 0 }

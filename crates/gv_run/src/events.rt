@@ -1,8 +1,8 @@
 ghost use Rattle.std.specs.Prelude.{◌≡◌, ◌≢◌, ℕ, ◌+◌, ◌*◌, ◌%◌, ◌/◌, ◌^◌, ◌<◌, ◌≤◌, length, OnOk};
 ghost use Rattle.std.specs.List.{AllByRecursion};
-ghost use Rattle.gv_types.specs.Places.{end_of};
+ghost use Rattle.gv_types.specs.Places.{address_limit};
 ghost use Rattle.gv_types.specs.Memory.{bytes_of};
-ghost use Rattle.gv_cmd.specs.Effect.{base_of};
+ghost use Rattle.gv_types.specs.Engines.{register_base};
 ghost use Rattle.gv_gpu.specs.Change.{RanPart};
 ghost use Rattle.gv_private.specs.Inputs.{event as one_event};
 ghost use Rattle.gv_machine.specs.Course.{play};
@@ -64,7 +64,7 @@ fn writes<G: Gpu>(
     requires stands { Stands (G.state gpu.old) mediator.old }
     requires there { guest.0 < length (machine_of (G.state gpu.old) mediator.old).devices }
     requires aligned { at % bytes_of width ≡ 0 }
-    requires within { at + bytes_of width * length values.now ≤ end_of place }
+    requires within { at + bytes_of width * length values.now ≤ address_limit place }
     requires fit { AllByRecursion (λ value. value < value_limit width) values.now }
     ensures stands { OnOk result (Stands (G.state gpu.new) mediator.new) }
     ensures done { OnOk result (Plays (play input_course (machine_of (G.state gpu.old) mediator.old) (writes_of guest place width at values.now))
@@ -92,7 +92,7 @@ fn writes<G: Gpu>(
 
 // Where an engine's registers begin.
 fn base_of(engine: u8) -> u64
-    ensures { result ≡ base_of engine }
+    ensures { result ≡ register_base engine }
 {
     match engine {
         0 => 0x2000,

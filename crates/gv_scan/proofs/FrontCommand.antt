@@ -6,7 +6,7 @@ use Rattle.std.specs.Prelude.{MatchOption}
 use Rattle.gv_types.specs.declared.reply.Reason.{Reason}
 use Rattle.gv_types.specs.declared.reply.Reason.TheVariants.{Command, Range, Size}
 use Rattle.gv_cmd.specs.Allowed.{is_allowed, may_stand}
-use Rattle.gv_cmd.specs.Command.{front, decoded}
+use Rattle.gv_cmd.specs.Command.{decoded_by, decoded}
 use Rattle.gv_cmd.specs.Table.{length_of, kind_of}
 use Rattle.gv_cmd.specs.declared.command.Unlisted.{Unlisted}
 use Rattle.gv_cmd.specs.declared.kind.Kind.{Kind}
@@ -95,8 +95,8 @@ module _ (word : ℕ → ℕ) (at n : ℕ) (named : length_of (word at) ≡ Some
 
   pub decoded-dwords : decoded xs ≡ by_kind true xs (is_some (kind_of xs))
   decoded-dwords =
-      ap (λ h. front (length_of h) xs) header
-      ∙ ap (λ o. front o xs) named
+      ap (λ h. decoded_by (length_of h) xs) header
+      ∙ ap (λ o. decoded_by o xs) named
       ∙ ap (λ b. by_kind b (take n xs) (is_some (kind_of (take n xs)))) enough
       ∙ ap (λ ys. by_kind true ys (is_some (kind_of ys))) whole
 
@@ -143,7 +143,7 @@ module _ (space : GlobalSpace) (engine : ℕ) (ring : List ℕ) where
   err-by n true true e is h = cc
   err-by n true false e is h = ap (λ b. check b Command (check (owns_operands space (take n ring)) Range (Ok (take n ring)))) (no-kind (kind_of (take n ring)) is)
 
-  err-from : (o : Option ℕ) (e : Unlisted) → front o ring ≡ Err e → from o ≡ Err Command
+  err-from : (o : Option ℕ) (e : Unlisted) → decoded_by o ring ≡ Err e → from o ≡ Err Command
   err-from None e is = refl
   err-from (Some n) e is = err-by n (leb n (length ring)) (is_some (kind_of (take n ring))) e refl is
 
@@ -155,7 +155,7 @@ module _ (space : GlobalSpace) (engine : ℕ) (ring : List ℕ) where
   ok-by n true false c m is = absurd (ok-not-err ring c n m is)
   ok-by n false some c m is = absurd (ok-not-err ring c n m is)
 
-  ok-from : (o : Option ℕ) (c : List ℕ) (m : ℕ) → front o ring ≡ Ok (c, m) → from o ≡ behind c
+  ok-from : (o : Option ℕ) (c : List ℕ) (m : ℕ) → decoded_by o ring ≡ Ok (c, m) → from o ≡ behind c
   ok-from None c m is = absurd (ok-not-err ring c 0 m is)
   ok-from (Some n) c m is = ok-by n (leb n (length ring)) (is_some (kind_of (take n ring))) c m is
 

@@ -7,9 +7,9 @@ use Rattle.gv_types.specs.declared.ids.Label.{Label}
 use Rattle.gv_ctx.specs.Descriptor.{descriptor_of}
 use Rattle.gv_ctx.specs.Saved.{fields_of, saved_of}
 use Rattle.gv_ctx.proofs.Places.{saved_of-fields_of}
-use Rattle.gv_gpu.specs.Device.{Device, Loaded, with_loaded, with_word}
+use Rattle.gv_gpu.specs.Device.{Device, Loaded, with_loaded, with_page_word}
 use Rattle.gv_gpu.specs.Physical.{page_of, read_page, write_page, word_in, word_stored, operand_at, operand_stored}
-use Rattle.gv_gpu.specs.Context.{state_at, state_dword, field_dwords, fields_stored, context_saved, context_of, stopped_with, stopped, loaded_after, submitted}
+use Rattle.gv_gpu.specs.Context.{state_at, state_dword, field_dwords, fields_stored, context_saved, context_of, stopped_with, stopped, loaded_after, context_submitted}
 use Rattle.gv_sctx.specs.Image.{page_dword, with_dword, saved_in}
 use Rattle.gv_sctx.specs.Context.{HasImage, HoldsContext}
 use Rattle.gv_sctx.proofs.Dwords.{fields_in, field_in, length-fields, fields-after}
@@ -109,8 +109,8 @@ module _ (d : Device) (guest descriptor image : ℕ) (has : HasImage d guest des
   unfolding operand_stored
   dword-stored n value h =
       ap (λ page. word_stored d page (state_at descriptor n) (with_half (word_in d page (state_at descriptor n)) (state_at descriptor n) value)) (writes-image n h)
-      ∙ ap (λ k. with_word d image k (with_half (get_or (d.words image) k 0) (state_at descriptor n) value)) (word_at own_page n h)
-      ∙ ap (λ k. with_word d image (n / 2) (with_half_by (eqb k 0) (get_or (d.words image) (n / 2) 0) value)) (low_at own_page n)
+      ∙ ap (λ k. with_page_word d image k (with_half (get_or (d.words image) k 0) (state_at descriptor n) value)) (word_at own_page n h)
+      ∙ ap (λ k. with_page_word d image (n / 2) (with_half_by (eqb k 0) (get_or (d.words image) (n / 2) 0) value)) (low_at own_page n)
 
 -- ---- the page's words, all at once
 
@@ -254,6 +254,6 @@ module _ (d : Device) (image engine : ℕ) (l : Loaded) (is : d.loaded engine �
         subst P (sym stopped-is) unloaded
 
 -- A context that is loaded where none was is the one that its image holds.
-pub submitted-context : (d : Device) (engine owner descriptor : ℕ) → d.loaded engine ≡ None → submitted d engine owner descriptor ≡ with_loaded d engine (Some (context_of d owner descriptor))
-unfolding submitted
+pub submitted-context : (d : Device) (engine owner descriptor : ℕ) → d.loaded engine ≡ None → context_submitted d engine owner descriptor ≡ with_loaded d engine (Some (context_of d owner descriptor))
+unfolding context_submitted
 submitted-context d engine owner descriptor none = ap (λ x. loaded_after (context_saved d x) engine owner descriptor) none

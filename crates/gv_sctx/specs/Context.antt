@@ -4,7 +4,7 @@ use Rattle.gv_ctx.specs.Descriptor.{descriptor_of}
 use Rattle.gv_ctx.specs.Saved.{fields_of}
 use Rattle.gv_ctx.specs.declared.saved.Saved.{Saved}
 use Rattle.gv_gpu.specs.Device.{Device, Loaded, with_loaded}
-use Rattle.gv_gpu.specs.Context.{state_dword, context_of, stopped, submitted}
+use Rattle.gv_gpu.specs.Context.{state_dword, context_of, stopped, context_submitted}
 use Rattle.gv_sctx.specs.Image.{image_fields, AreDwords, filled_words, saved_in}
 use Rattle.gv_gpu.specs.Part.{shadow_label}
 
@@ -57,4 +57,4 @@ StoppedHoldsContext = (d : Device) (engine image : ℕ) (l : Loaded) → d.loade
 
 -- A context that is submitted where none is loaded is the one that its image holds.
 abbrev pub SubmittedIsLoaded : Type 0
-SubmittedIsLoaded = (d : Device) (engine owner descriptor : ℕ) → d.loaded engine ≡ None → submitted d engine owner descriptor ≡ with_loaded d engine (Some (context_of d owner descriptor))
+SubmittedIsLoaded = (d : Device) (engine owner descriptor : ℕ) → d.loaded engine ≡ None → context_submitted d engine owner descriptor ≡ with_loaded d engine (Some (context_of d owner descriptor))

@@ -2,7 +2,7 @@
 -- that it grants, present and writable, or is absent.
 use Rattle.std.specs.Prelude.{◌≡◌, ℕ, ◌+◌, ◌*◌, ◌%◌, Bool, true, false, List, Option, None, Some, slice_index}
 use Rattle.gv_types.specs.declared.ranges.Ranges.{Ranges}
-use Rattle.gv_entry.specs.Global.{entry_of}
+use Rattle.gv_entry.specs.Global.{global_entry}
 use Rattle.gv_entry.specs.Ranges.{owns_page}
 use Rattle.gv_gpu.specs.Device.{Device}
 use Rattle.gv_guest.specs.Placed.{Placed}
@@ -26,7 +26,7 @@ pub record Mirrors (d : Device) (t : Table) (placed : Placed) : Type 0 where
 
 -- Whether a page's entry names the frame.
 abbrev pub page_names : Ranges → List ℕ → ℕ → ℕ → ℕ → Bool
-page_names ranges entries frames frame page = names frames frame (entry_of ranges entries page)
+page_names ranges entries frames frame page = names frames frame (global_entry ranges entries page)
 
 -- The physical entries of the pages whose entries name a frame are this one, and all others are as before.
 pub record SetsEntries (ranges : Ranges) (entries : List ℕ) (frames frame entry : ℕ) (before after : Device) : Type 0 where

@@ -3,7 +3,7 @@
 use Rattle.std.specs.Prelude.{◌≡◌, ℕ, ◌≤◌, List, Bool, false, Option, length, replicate, slice_index_or, slice_set}
 use Rattle.gv_types.specs.declared.ranges.Ranges.{Ranges}
 use Rattle.gv_entry.specs.Entry.{global_frame}
-use Rattle.gv_entry.specs.Global.{entry_of, pages_of, with_entry, zero_entries}
+use Rattle.gv_entry.specs.Global.{global_entry, pages_of, with_entry, zero_entries}
 use Rattle.gv_entry.specs.Grants.{global_grant, unless}
 use Rattle.gv_entry.specs.Ranges.{InParts}
 
@@ -18,7 +18,7 @@ abbrev pub zero_table : Ranges → ℕ → Table
 zero_table ranges frames = record { ranges = ranges; frames = frames; entries = zero_entries ranges; guarded = replicate frames false }
 
 abbrev pub table_entry : Table → ℕ → ℕ
-table_entry t page = entry_of t.ranges t.entries page
+table_entry t page = global_entry t.ranges t.entries page
 
 -- A page that the guest doesn't own has no entry to write.
 abbrev pub table_written : Table → ℕ → ℕ → Table

@@ -3,7 +3,7 @@ use Rattle.std.proofs.Common.{ℕ, ◌+◌, ◌*◌, ◌≤◌, ◌<◌, ◌≡�
 use Rattle.std.proofs.lemmas.Bool.{eq-eqb, ne_eqb, lt-ltb, cases_lt, cases_eq}
 use Rattle.std.proofs.lemmas.Bool.Decides.{nat_tests}
 use Rattle.gv_entry.specs.declared.process.Process.TheVariants.{Table, Large, Page}
-use Rattle.gv_entry.specs.Tables.{entry_of}
+use Rattle.gv_entry.specs.Tables.{level_entry}
 use Rattle.gv_types.specs.Memory.{Memory}
 use Rattle.gv_shape.specs.Shadow.{split_level, wanted}
 use Rattle.gv_shape.specs.Counts.{above, names_node, naming, rank, one_if}
@@ -32,7 +32,7 @@ naming-low level h few = rw (low_level level few) refl
 pub naming-high : (level h : ℕ) → 5 ≤ level → naming level h ≡ Large h (eqb level 5)
 naming-high level h many = rw (high_level level many) refl
 
-pub wanted-low : (m : Memory) (level f i : ℕ) → level < 5 → wanted m level f i ≡ entry_of m level f i
+pub wanted-low : (m : Memory) (level f i : ℕ) → level < 5 → wanted m level f i ≡ level_entry m level f i
 wanted-low m level f i few = rw (low_level level few) refl
 
 pub wanted-high : (m : Memory) (level f i : ℕ) → 5 ≤ level → wanted m level f i ≡ Page (f + i) (eqb level 5)

@@ -11,7 +11,7 @@ use Rattle.gv_types.specs.Memory.{Memory}
 use Rattle.gv_entry.specs.declared.process.Process.{Process}
 use Rattle.gv_entry.specs.declared.process.Process.TheVariants.{Absent, Table, Large, Page, Bad}
 use Rattle.gv_entry.specs.Entry.{process_entry}
-use Rattle.gv_entry.specs.Tables.{entry_of, names, names_large, words_of, any_entry, tables_named, live}
+use Rattle.gv_entry.specs.Tables.{level_entry, names, names_large, frame_words, any_entry, tables_named, live}
 use Rattle.gv_shape.specs.Shadow.{Pages, Readings, split_level, wanted, is_live, is_split}
 use Rattle.gv_shape.specs.Counts.{total, one_if, uses, namings, names_node, is_among, Settled}
 use Rattle.gv_shape.proofs.Totals.{total-some, total-at}
@@ -41,19 +41,19 @@ module _ (m : Memory) (level : ℕ) (tables : List ℕ) (f : ℕ) where
 
   -- a table of the level names the frame
   pub named_at : list_any (λ t. eqb t f) (tables_named m level tables) ≡ true
-      → (f < length m) × ((t i : ℕ) × ((list_any (λ x. eqb x t) tables ≡ true) × ((i < length (words_of m t)) × (names f (entry_of m level t i) ≡ true))))
+      → (f < length m) × ((t i : ℕ) × ((list_any (λ x. eqb x t) tables ≡ true) × ((i < length (frame_words m t)) × (names f (level_entry m level t i) ≡ true))))
   named_at h =
       let both = and_parts (list_any (any_entry m level (names f)) tables) (list_any (λ t. eqb t f) (range_with_len 0 (length m))) (sym named_is ∙ h) in
       let at = found (any_entry m level (names f)) tables 0 both.0 in
       let t = get_or tables at.0 0 in
-      let word = found (λ w. names f (process_entry w level (length m))) (words_of m t) 0 at.2 in
+      let word = found (λ w. names f (process_entry w level (length m))) (frame_words m t) 0 at.2 in
       (range_below (length m) f both.1, (t, word.0, (list_any_at (λ x. eqb x t) tables at.0 0 at.1 (eq-eqb t t refl), (word.1, word.2))))
 
-  pub named_by : (t i : ℕ) → f < length m → list_any (λ x. eqb x t) tables ≡ true → i < length (words_of m t) → names f (entry_of m level t i) ≡ true → list_any (λ x. eqb x f) (tables_named m level tables) ≡ true
+  pub named_by : (t i : ℕ) → f < length m → list_any (λ x. eqb x t) tables ≡ true → i < length (frame_words m t) → names f (level_entry m level t i) ≡ true → list_any (λ x. eqb x f) (tables_named m level tables) ≡ true
   named_by t i low there within is =
       let at = found (λ x. eqb x t) tables 0 there in
       let which = eqb-true (get_or tables at.0 0) t at.2 in
-      let word : any_entry m level (names f) t ≡ true = list_any_at (λ w. names f (process_entry w level (length m))) (words_of m t) i 0 within is in
+      let word : any_entry m level (names f) t ≡ true = list_any_at (λ w. names f (process_entry w level (length m))) (frame_words m t) i 0 within is in
       let any : list_any (any_entry m level (names f)) tables ≡ true = list_any_at (any_entry m level (names f)) tables at.0 0 at.1 (ap (any_entry m level (names f)) which ∙ word) in
       named_is ∙ and_from _ _ any (in_range (length m) f low)
 
@@ -125,7 +125,7 @@ true_one true h = refl
 true_one false h = cc
 
 module _ (frames : ℕ) (m : Memory) (roots : List ℕ) (done : ℕ) (pages : Pages) (parents : ℕ → ℕ → ℕ) (readings : Readings)
-    (long : length m ≡ frames) (whole : (f : ℕ) → f < frames → length (words_of m f) ≡ 512) (s : Settled frames m roots done pages parents readings) where
+    (long : length m ≡ frames) (whole : (f : ℕ) → f < frames → length (frame_words m f) ≡ 512) (s : Settled frames m roots done pages parents readings) where
   -- a word that passes a test, at a level that is done
   passed_at : (level : ℕ) (test : Process → Bool) → test Absent ≡ false → done < level → 1 ≤ uses frames readings level test → (t i p : ℕ) × ((pages level t ≡ Some p) × ((i < 512) × (test (wanted m level t i) ≡ true)))
   passed_at level test none up h =
@@ -149,19 +149,19 @@ module _ (frames : ℕ) (m : Memory) (roots : List ℕ) (done : ℕ) (pages : Pa
   low_level : (level : ℕ) → level ≤ 4 → ltb level 5 ≡ true
   low_level level few = grind (arith, nat_tests)
 
-  is_entry : (level t i : ℕ) → level ≤ 4 → wanted m level t i ≡ entry_of m level t i
-  is_entry level t i few = λ x. cond (low_level level few x) (entry_of m level t i) (Page (t + i) (eqb level 5))
+  is_entry : (level t i : ℕ) → level ≤ 4 → wanted m level t i ≡ level_entry m level t i
+  is_entry level t i few = λ x. cond (low_level level few x) (level_entry m level t i) (Page (t + i) (eqb level 5))
 
   is_naming : (level f : ℕ) → level ≤ 4 → namings frames readings level f ≡ uses frames readings (level + 1) (names f)
   is_naming level f few = λ x. uses frames readings (cond (low_level level few x) (level + 1) 2) (λ e. same_name level f e (low_level level few) x)
 
   -- a node below a root has a word that names it
-  named_from : (level f : ℕ) → level ≤ 3 → done ≤ level → 1 ≤ uses frames readings (level + 1) (names f) → (t i p : ℕ) × ((pages (level + 1) t ≡ Some p) × ((i < 512) × (names f (entry_of m (level + 1) t i) ≡ true)))
+  named_from : (level f : ℕ) → level ≤ 3 → done ≤ level → 1 ≤ uses frames readings (level + 1) (names f) → (t i p : ℕ) × ((pages (level + 1) t ≡ Some p) × ((i < 512) × (names f (level_entry m (level + 1) t i) ≡ true)))
   named_from level f few up h =
       let at = passed_at (level + 1) (names f) refl (omega arith) h in
       (at.0, at.1, at.2, (at.3.0, (at.3.1.0, ap (names f) (sym (is_entry (level + 1) at.0 at.1 (omega arith))) ∙ at.3.1.1)))
 
-  named_to : (level f t i p : ℕ) → 1 ≤ level → level ≤ 3 → done ≤ level → pages (level + 1) t ≡ Some p → i < 512 → names f (entry_of m (level + 1) t i) ≡ true → 1 ≤ parents level f
+  named_to : (level f t i p : ℕ) → 1 ≤ level → level ≤ 3 → done ≤ level → pages (level + 1) t ≡ Some p → i < 512 → names f (level_entry m (level + 1) t i) ≡ true → 1 ≤ parents level f
   named_to level f t i p some few up there within is =
       let by = passed_by (level + 1) t i p (names f) (omega arith) there within (ap (names f) (is_entry (level + 1) t i (omega arith)) ∙ is) in
       let counted = s.counted level f some in
@@ -220,7 +220,7 @@ module _ (frames : ℕ) (m : Memory) (roots : List ℕ) (done : ℕ) (pages : Pa
           let i = at.1.1 in
           let node = up.live_nodes t at.1.2.0 in
           let low = (s.low (level + 1) t node.0 node.1).0 in
-          exists level f (named_to level f t i node.0 some (omega arith) here node.1 (let w : i < length (words_of m t) = at.1.2.1.0 in rw (whole t low) at w) at.1.2.1.1);
+          exists level f (named_to level f t i node.0 some (omega arith) here node.1 (let w : i < length (frame_words m t) = at.1.2.1.0 in rw (whole t low) at w) at.1.2.1.1);
     }
 
   third_live : done ≤ 3 → AreLive 3
@@ -269,18 +269,18 @@ module _ (frames : ℕ) (m : Memory) (roots : List ℕ) (done : ℕ) (pages : Pa
       let live = (second_live (omega arith)).nodes_live t at.2 at.3.0 in
       let found_at = found (λ x. eqb x t) (live_of m roots) 0 live in
       let which = eqb-true (get_or (live_of m roots) found_at.0 0) t found_at.2 in
-      let within : i < length (words_of m t) = rw (whole t low) at.3.1.0 in
-      let word : any_entry m 2 (names_large b w) t ≡ true = list_any_at (λ word. names_large b w (process_entry word 2 (length m))) (words_of m t) i 0 within at.3.1.1 in
+      let within : i < length (frame_words m t) = rw (whole t low) at.3.1.0 in
+      let word : any_entry m 2 (names_large b w) t ≡ true = list_any_at (λ word. names_large b w (process_entry word 2 (length m))) (frame_words m t) i 0 within at.3.1.1 in
       list_any_at (any_entry m 2 (names_large b w)) (live_of m roots) found_at.0 0 found_at.1 (ap (any_entry m 2 (names_large b w)) which ∙ word)
 
   pub split-node : (w : Bool) (b : ℕ) → done ≤ 1 → is_split m roots b w ≡ true → (p : ℕ) × (pages (split_level w) b ≡ Some p)
   split-node w b h is =
       let at = found (any_entry m 2 (names_large b w)) (live_of m roots) 0 is in
       let t = get_or (live_of m roots) at.0 0 in
-      let word = found (λ word. names_large b w (process_entry word 2 (length m))) (words_of m t) 0 at.2 in
+      let word = found (λ word. names_large b w (process_entry word 2 (length m))) (frame_words m t) 0 at.2 in
       let node = (second_live (omega arith)).live_nodes t (list_any_at (λ x. eqb x t) (live_of m roots) at.0 0 at.1 (eq-eqb t t refl)) in
       let low = (s.low 2 t node.0 node.1).0 in
-      let within : word.0 < 512 = (let b : word.0 < length (words_of m t) = word.1 in rw (whole t low) at b) in
+      let within : word.0 < 512 = (let b : word.0 < length (frame_words m t) = word.1 in rw (whole t low) at b) in
       let by = passed_by 2 t word.0 node.0 (names_large b w) (omega arith) node.1 within word.2 in
       let counted = split_counted h w b in
       exists (split_level w) b (omega arith)

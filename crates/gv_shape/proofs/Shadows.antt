@@ -4,7 +4,7 @@ use Rattle.std.proofs.lemmas.Bool.{cases_lt}
 use Rattle.gv_types.specs.Memory.{Memory}
 use Rattle.gv_entry.specs.declared.process.Process.{Process}
 use Rattle.gv_entry.specs.Entry.{process_entry}
-use Rattle.gv_entry.specs.Tables.{words_of, is_guarded}
+use Rattle.gv_entry.specs.Tables.{frame_words, is_guarded}
 use Rattle.gv_entry.specs.SameTables.{SameTables}
 use Rattle.gv_entry.proofs.SameTables.{tables_decide}
 use Rattle.gv_shape.specs.Shadow.{Names, wanted, split_level, is_live, is_split}
@@ -24,7 +24,7 @@ wanted-same : (m n : Memory) (roots : List ℕ) → SameTables m n roots → (le
 wanted-same m n roots same level frame index guarded = ⊎_elim
     (λ low. wanted-low n level frame index low
     ∙ ap (λ (ws : List ℕ). process_entry (get_or ws index 0) level (length n)) (same.words frame (guarded (omega arith)))
-    ∙ ap (process_entry (get_or (words_of m frame) index 0) level) same.frames
+    ∙ ap (process_entry (get_or (frame_words m frame) index 0) level) same.frames
     ∙ sym (wanted-low m level frame index low))
     (λ high. wanted-high n level frame index high ∙ sym (wanted-high m level frame index high))
     (cases_lt level 5)

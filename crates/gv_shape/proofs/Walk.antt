@@ -5,7 +5,7 @@ use Rattle.std.proofs.lemmas.Bool.Decides.{nat_tests}
 use Rattle.gv_types.specs.Memory.{Memory}
 use Rattle.gv_entry.specs.declared.process.Process.{Process}
 use Rattle.gv_entry.specs.declared.process.Process.TheVariants.{Absent, Table, Large, Page, Bad}
-use Rattle.gv_entry.specs.Tables.{entry_of, index_at, Mapped, mapped_page, through, through_or_large, walk, is_guarded}
+use Rattle.gv_entry.specs.Tables.{level_entry, index_at, Mapped, mapped_page, through, through_or_large, walk, is_guarded}
 use Rattle.gv_entry.specs.Grants.{frame_of, if_writable, read_grant, write_grant}
 use Rattle.gv_gpu.specs.Device.{Device}
 use Rattle.gv_gpu.specs.Physical.{live_page, page_of, entry_in, third_table, second_table, first_table, leaf, read_page, write_page}
@@ -103,19 +103,19 @@ module _ (d : Device) (placed : Placed) (pages : Pages) (guarded : ℕ → Bool)
   word3 o = word2 (page_of d (entry_in d o (index_at 3 at)))
 
   abbrev walk1 : ℕ → Option Mapped
-  walk1 table = mapped_page (entry_of m 1 table (index_at 1 at))
+  walk1 table = mapped_page (level_entry m 1 table (index_at 1 at))
 
   abbrev walk2 : ℕ → Option Mapped
-  walk2 table = through_or_large (entry_of m 2 table (index_at 2 at)) (index_at 1 at) walk1
+  walk2 table = through_or_large (level_entry m 2 table (index_at 2 at)) (index_at 1 at) walk1
 
   abbrev walk3 : ℕ → Option Mapped
-  walk3 table = through (entry_of m 3 table (index_at 3 at)) walk2
+  walk3 table = through (level_entry m 3 table (index_at 3 at)) walk2
 
   below : (level : ℕ) → index_at level at < 512
   below level = omega arith
 
   to1 : (q p : ℕ) → pages 1 q ≡ Some p → (d.label p ≡ Some (shadow_label placed.guest)) × Leads placed guarded (walk1 q) (word1 (Some p))
-  to1 q p h = (local.labelled 1 q p h, at_leaf d placed pages guarded (entry_of m 1 q (index_at 1 at)) (get_or (d.words p) (index_at 1 at) 0) (local.names 1 q p (index_at 1 at) h (below 1)))
+  to1 q p h = (local.labelled 1 q p h, at_leaf d placed pages guarded (level_entry m 1 q (index_at 1 at)) (get_or (d.words p) (index_at 1 at) 0) (local.names 1 q p (index_at 1 at) h (below 1)))
 
   to_split : (b p : ℕ) (w : Bool) → pages (split_level w) b ≡ Some p → (d.label p ≡ Some (shadow_label placed.guest)) × Leads placed guarded (Some (record { frame = b + index_at 1 at; writable = w })) (word1 (Some p))
   to_split b p true h = let leaf = local.names 5 b p (index_at 1 at) h (below 1) in (local.labelled 5 b p h, (leaf.1, leaf.2))
@@ -124,13 +124,13 @@ module _ (d : Device) (placed : Placed) (pages : Pages) (guarded : ℕ → Bool)
   to2 : (q p : ℕ) → pages 2 q ≡ Some p → (d.label p ≡ Some (shadow_label placed.guest)) × Leads placed guarded (walk2 q) (word2 (Some p))
   to2 q p h = (
     local.labelled 2 q p h,
-    at_second d placed pages guarded (index_at 1 at) walk1 word1 refl to1 to_split (entry_of m 2 q (index_at 2 at)) (get_or (d.words p) (index_at 2 at) 0) (local.names 2 q p (index_at 2 at) h (below 2)),
+    at_second d placed pages guarded (index_at 1 at) walk1 word1 refl to1 to_split (level_entry m 2 q (index_at 2 at)) (get_or (d.words p) (index_at 2 at) 0) (local.names 2 q p (index_at 2 at) h (below 2)),
   )
 
   to3 : (q p : ℕ) → pages 3 q ≡ Some p → (d.label p ≡ Some (shadow_label placed.guest)) × Leads placed guarded (walk3 q) (word3 (Some p))
   to3 q p h = (
     local.labelled 3 q p h,
-    at_table d placed pages guarded 3 walk2 word2 (omega arith) (omega arith) (local.labelled 3) refl to2 (entry_of m 3 q (index_at 3 at)) (get_or (d.words p) (index_at 3 at) 0) (local.names 3 q p (index_at 3 at) h (below 3)),
+    at_table d placed pages guarded 3 walk2 word2 (omega arith) (omega arith) (local.labelled 3) refl to2 (level_entry m 3 q (index_at 3 at)) (get_or (d.words p) (index_at 3 at) 0) (local.names 3 q p (index_at 3 at) h (below 3)),
   )
 
   -- The physical walk from the root's page leads where the guest's walk does.
@@ -138,7 +138,7 @@ module _ (d : Device) (placed : Placed) (pages : Pages) (guarded : ℕ → Bool)
   unfolding leaf first_table second_table third_table
   walk-leads =
       subst (λ o. Leads placed guarded (walk m root at) (word3 (page_of d (entry_in d o (index_at 4 at))))) (sym (live_some d placed pages guarded page (shadow_label placed.guest) (local.labelled 4 root page is)))
-      (at_table d placed pages guarded 4 walk3 word3 (omega arith) (omega arith) (local.labelled 4) refl to3 (entry_of m 4 root (index_at 4 at)) (get_or (d.words page) (index_at 4 at) 0) (local.names 4 root page (index_at 4 at) is (below 4)))
+      (at_table d placed pages guarded 4 walk3 word3 (omega arith) (omega arith) (local.labelled 4) refl to3 (level_entry m 4 root (index_at 4 at)) (get_or (d.words page) (index_at 4 at) 0) (local.names 4 root page (index_at 4 at) is (below 4)))
 
 leaf_odd : (p : ℕ) (w g : Bool) → leaf_word p w g % 2 ≡ 1
 leaf_odd p true true = omega arith

@@ -2,7 +2,7 @@
 -- the guest's tables grant. And what keeps them.
 use Rattle.std.specs.Prelude.{ℕ, ◌≤◌, ◌<◌, ◌≡◌, Bool, true, false, List, Option, None, Some, is_some, length, slice_index}
 use Rattle.gv_types.specs.Memory.{Memory}
-use Rattle.gv_entry.specs.Tables.{words_of, is_guarded}
+use Rattle.gv_entry.specs.Tables.{frame_words, is_guarded}
 use Rattle.gv_entry.specs.Grants.{read_grant, write_grant}
 use Rattle.gv_entry.specs.SameTables.{SameTables}
 use Rattle.gv_gpu.specs.Device.{Device}
@@ -49,4 +49,4 @@ pub record AreLiveTables (m : Memory) (roots : List ℕ) (pages : Pages) : Type 
 
 abbrev pub NodesAreTheLiveTables : Type 0
 NodesAreTheLiveTables = (frames : ℕ) (m : Memory) (roots : List ℕ) (pages : Pages) (parents : ℕ → ℕ → ℕ) (readings : Readings) → length m ≡ frames
-    → ((frame : ℕ) → frame < frames → length (words_of m frame) ≡ 512) → Settled frames m roots 0 pages parents readings → AreLiveTables m roots pages
+    → ((frame : ℕ) → frame < frames → length (frame_words m frame) ≡ 512) → Settled frames m roots 0 pages parents readings → AreLiveTables m roots pages

@@ -8,7 +8,7 @@ use Rattle.std.proofs.lemmas.List.Folds.{Any-from_list_any, list_any_at}
 use Rattle.gv_entry.specs.declared.process.Process.{Process}
 use Rattle.gv_entry.specs.declared.process.Process.TheVariants.{Absent, Table, Page, Bad, Large}
 use Rattle.gv_entry.specs.Entry.{process_entry}
-use Rattle.gv_entry.specs.Tables.{words_of, any_entry, is_bad_entry, has_bad_entry, live, is_guarded}
+use Rattle.gv_entry.specs.Tables.{frame_words, any_entry, is_bad_entry, has_bad_entry, live, is_guarded}
 use Rattle.gv_entry.specs.Grants.{read_grant, write_grant}
 use Rattle.gv_gpu.specs.Device.{Device}
 use Rattle.gv_gpu.specs.Physical.{read_page, write_page}
@@ -48,10 +48,10 @@ module _ (d : Device) (placed : Placed) (t : Tables) (pins roots : List ℕ) (fr
       let f = at.1 in
       let there : is_live m roots k f ≡ true = list_any_at (λ x. eqb x f) (live m roots k) at.0 f at.2 (eq-eqb _ f at.3) in
       let node = live-rests d placed t pins roots 0 frame index h r k f low high (omega arith) there in
-      let word = Any-from_list_any (λ w. is_bad_entry (process_entry w k (length m))) (words_of m f) at.4 in
+      let word = Any-from_list_any (λ w. is_bad_entry (process_entry w k (length m))) (frame_words m f) at.4 in
       let frame_low = (h.sound.boarded.low k f node.0 node.1).0 in
       let small = rw (frame-words d placed f h.stands frame_low) at word.2 in
-      not_bad k f node.0 word.0 node.1 small (wanted-low m k f word.0 (omega arith) ∙ bad_is _ (ap (λ w. is_bad_entry (process_entry w k (length m))) (get_or_default (words_of m f) word.0 0 word.1 word.2 ∙ word.3) ∙ word.4))
+      not_bad k f node.0 word.0 node.1 small (wanted-low m k f word.0 (omega arith) ∙ bad_is _ (ap (λ w. is_bad_entry (process_entry w k (length m))) (get_or_default (frame_words m f) word.0 0 word.1 word.2 ∙ word.3) ∙ word.4))
     where
       bad_is : (e : Process) → is_bad_entry e ≡ true → e ≡ Bad
       bad_is Absent e = cc

@@ -9,7 +9,7 @@ use Rattle.gv_types.specs.Memory.{Memory}
 use Rattle.gv_entry.specs.declared.process.Process.{Process}
 use Rattle.gv_entry.specs.declared.process.Process.TheVariants.{Absent, Table, Large, Page, Bad}
 use Rattle.gv_entry.specs.Entry.{process_entry}
-use Rattle.gv_entry.specs.Tables.{entry_of, names_large, words_of, any_entry, live}
+use Rattle.gv_entry.specs.Tables.{level_entry, names_large, frame_words, any_entry, live}
 use Rattle.gv_entry.specs.Grants.{is_mapped, maps as maps_frame}
 use Rattle.gv_shape.specs.Shadow.{Pages, Readings, split_level, wanted, is_live, is_split}
 use Rattle.gv_shape.specs.Counts.{total, one_if, uses, maps, leaves, Settled}
@@ -96,7 +96,7 @@ maps-some frame (Page f w) large h = absurd (large f w refl)
 maps-some frame Bad large h = cc
 
 module _ (frames : ℕ) (m : Memory) (roots : List ℕ) (pages : Pages) (parents : ℕ → ℕ → ℕ) (readings : Readings) (few : frames ≤ 16384)
-    (long : length m ≡ frames) (whole : (f : ℕ) → f < frames → length (words_of m f) ≡ 512) (s : Settled frames m roots 0 pages parents readings) (frame : ℕ) where
+    (long : length m ≡ frames) (whole : (f : ℕ) → f < frames → length (frame_words m f) ≡ 512) (s : Settled frames m roots 0 pages parents readings) (frame : ℕ) where
   abbrev there : List ℕ
   there = live m roots 2
 
@@ -120,28 +120,28 @@ module _ (frames : ℕ) (m : Memory) (roots : List ℕ) (pages : Pages) (parents
       omega arith
 
   -- a word of a live table that passes a test
-  any-live : (level t i : ℕ) (test : Process → Bool) → is_live m roots level t ≡ true → t < frames → i < 512 → test (entry_of m level t i) ≡ true → list_any (any_entry m level test) (live m roots level) ≡ true
+  any-live : (level t i : ℕ) (test : Process → Bool) → is_live m roots level t ≡ true → t < frames → i < 512 → test (level_entry m level t i) ≡ true → list_any (any_entry m level test) (live m roots level) ≡ true
   any-live level t i test is low within passes =
       let at = found (λ x. eqb x t) (live m roots level) 0 is in
       let which = eqb-true (get_or (live m roots level) at.0 0) t at.2 in
-      let inside : i < length (words_of m t) = rw (whole t low) within in
-      let word : any_entry m level test t ≡ true = list_any_at (λ word. test (process_entry word level (length m))) (words_of m t) i 0 inside passes in
+      let inside : i < length (frame_words m t) = rw (whole t low) within in
+      let word : any_entry m level test t ≡ true = list_any_at (λ word. test (process_entry word level (length m))) (frame_words m t) i 0 inside passes in
       list_any_at (any_entry m level test) (live m roots level) at.0 0 at.1 (ap (any_entry m level test) which ∙ word)
 
-  live-any : (level : ℕ) (test : Process → Bool) → 1 ≤ level → level ≤ 4 → list_any (any_entry m level test) (live m roots level) ≡ true → (t i p : ℕ) × ((pages level t ≡ Some p) × ((i < 512) × (test (entry_of m level t i) ≡ true)))
+  live-any : (level : ℕ) (test : Process → Bool) → 1 ≤ level → level ≤ 4 → list_any (any_entry m level test) (live m roots level) ≡ true → (t i p : ℕ) × ((pages level t ≡ Some p) × ((i < 512) × (test (level_entry m level t i) ≡ true)))
   live-any level test low high h =
       let at = found (any_entry m level test) (live m roots level) 0 h in
       let t = get_or (live m roots level) at.0 0 in
-      let word = found (λ word. test (process_entry word level (length m))) (words_of m t) 0 at.2 in
+      let word = found (λ word. test (process_entry word level (length m))) (frame_words m t) 0 at.2 in
       let node = live-node frames m roots 0 pages parents readings long whole s level t low high (omega arith) (list_any_at (λ x. eqb x t) (live m roots level) at.0 0 at.1 (eq-eqb t t refl)) in
       let small = (s.low level t node.0 node.1).0 in
-      let within : word.0 < 512 = (let b : word.0 < length (words_of m t) = word.1 in rw (whole t small) at b) in
+      let within : word.0 < 512 = (let b : word.0 < length (frame_words m t) = word.1 in rw (whole t small) at b) in
       (t, word.0, node.0, (node.1, (within, word.2)))
 
   from-page : 1 ≤ uses frames readings 1 (maps frame) → list_any (any_entry m 1 (maps_frame frame)) (live m roots 1) ≡ true
   from-page h =
       let at = from-uses 1 (omega arith) h in
-      any-live 1 at.0 at.1 (maps_frame frame) (node-live frames m roots 0 pages parents readings long whole s 1 at.0 at.2 (omega arith) (omega arith) at.3.0) (s.low 1 at.0 at.2 at.3.0).0 at.3.1.0 (maps-one frame (entry_of m 1 at.0 at.1) at.3.1.1)
+      any-live 1 at.0 at.1 (maps_frame frame) (node-live frames m roots 0 pages parents readings long whole s 1 at.0 at.2 (omega arith) (omega arith) at.3.0) (s.low 1 at.0 at.2 at.3.0).0 at.3.1.0 (maps-one frame (level_entry m 1 at.0 at.1) at.3.1.1)
 
   from-split : (w : Bool) → 1 ≤ uses frames readings (split_level w) (maps frame) → list_any (any_entry m 2 (maps_frame frame)) there ≡ true
   from-split true h =
@@ -149,21 +149,21 @@ module _ (frames : ℕ) (m : Memory) (roots : List ℕ) (pages : Pages) (parents
       let is = eqb-true (at.0 + at.1) frame at.3.1.1 in
       let within = at.3.1.0 in
       any-weaker (any_entry m 2 (names_large at.0 true)) (any_entry m 2 (maps_frame frame)) there 0
-      (λ t. any-weaker (λ word. names_large at.0 true (process_entry word 2 (length m))) (λ word. maps_frame frame (process_entry word 2 (length m))) (words_of m t) 0 (λ word. maps-large frame at.0 true (process_entry word 2 (length m)) (omega arith) (omega arith)))
+      (λ t. any-weaker (λ word. names_large at.0 true (process_entry word 2 (length m))) (λ word. maps_frame frame (process_entry word 2 (length m))) (frame_words m t) 0 (λ word. maps-large frame at.0 true (process_entry word 2 (length m)) (omega arith) (omega arith)))
       (node-split frames m roots 0 pages parents readings long whole s true at.0 at.2 (omega arith) at.3.0)
   from-split false h =
       let at = from-uses 6 (omega arith) h in
       let is = eqb-true (at.0 + at.1) frame at.3.1.1 in
       let within = at.3.1.0 in
       any-weaker (any_entry m 2 (names_large at.0 false)) (any_entry m 2 (maps_frame frame)) there 0
-      (λ t. any-weaker (λ word. names_large at.0 false (process_entry word 2 (length m))) (λ word. maps_frame frame (process_entry word 2 (length m))) (words_of m t) 0 (λ word. maps-large frame at.0 false (process_entry word 2 (length m)) (omega arith) (omega arith)))
+      (λ t. any-weaker (λ word. names_large at.0 false (process_entry word 2 (length m))) (λ word. maps_frame frame (process_entry word 2 (length m))) (frame_words m t) 0 (λ word. maps-large frame at.0 false (process_entry word 2 (length m)) (omega arith) (omega arith)))
       (node-split frames m roots 0 pages parents readings long whole s false at.0 at.2 (omega arith) at.3.0)
 
   to-page : list_any (any_entry m 1 (maps_frame frame)) (live m roots 1) ≡ true → 1 ≤ uses frames readings 1 (maps frame)
   to-page h =
       let at = live-any 1 (maps_frame frame) (omega arith) (omega arith) h in
       to-uses 1 at.0 at.1 at.2 (omega arith) at.3.0 at.3.1.0
-      (maps-page frame (entry_of m 1 at.0 at.1) (λ b w is. let x = (large-is (get_or (words_of m at.0) at.1 0) 1 (length m) b w is).0 in omega arith) at.3.1.1)
+      (maps-page frame (level_entry m 1 at.0 at.1) (λ b w is. let x = (large-is (get_or (frame_words m at.0) at.1 0) 1 (length m) b w is).0 in omega arith) at.3.1.1)
 
   to-split : (w : Bool) (b : ℕ) → b ≤ frame → frame < b + 512 → is_split m roots b w ≡ true → 1 ≤ uses frames readings (split_level w) (maps frame)
   to-split true b low high is =
@@ -177,16 +177,16 @@ module _ (frames : ℕ) (m : Memory) (roots : List ℕ) (pages : Pages) (parents
   split_use true h = omega arith
   split_use false h = omega arith
 
-  large-leaf : (t i p b : ℕ) (w : Bool) → pages 2 t ≡ Some p → i < 512 → entry_of m 2 t i ≡ Large b w → b ≤ frame → frame < b + 512 → 1 ≤ leaves frames readings frame
+  large-leaf : (t i p b : ℕ) (w : Bool) → pages 2 t ≡ Some p → i < 512 → level_entry m 2 t i ≡ Large b w → b ≤ frame → frame < b + 512 → 1 ≤ leaves frames readings frame
   large-leaf t i p b w here within is low high =
       let live_table = node-live frames m roots 0 pages parents readings long whole s 2 t p (omega arith) (omega arith) here in
-      let names : names_large b w (entry_of m 2 t i) ≡ true = ap (names_large b w) is ∙ names-itself b w in
+      let names : names_large b w (level_entry m 2 t i) ≡ true = ap (names_large b w) is ∙ names-itself b w in
       split_use w (to-split w b low high (any-live 2 t i (names_large b w) live_table (s.low 2 t p here).0 within names))
 
   to-large : list_any (any_entry m 2 (maps_frame frame)) there ≡ true → 1 ≤ leaves frames readings frame
   to-large h =
       let at = live-any 2 (maps_frame frame) (omega arith) (omega arith) h in
-      let large = maps-some frame (entry_of m 2 at.0 at.1) (λ f w is. let x = (page-is (get_or (words_of m at.0) at.1 0) 2 (length m) f w is).0 in omega arith) at.3.1.1 in
+      let large = maps-some frame (level_entry m 2 at.0 at.1) (λ f w is. let x = (page-is (get_or (frame_words m at.0) at.1 0) 2 (length m) f w is).0 in omega arith) at.3.1.1 in
       large-leaf at.0 at.1 at.2 large.0 large.1 at.3.0 at.3.1.0 large.2 large.3.0 large.3.1
 
   mapped : 1 ≤ leaves frames readings frame → is_mapped m roots frame ≡ true

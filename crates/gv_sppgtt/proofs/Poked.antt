@@ -3,7 +3,7 @@ use Rattle.std.proofs.Common.{ℕ, ◌+◌, ◌*◌, ◌/◌, ◌%◌, ◌≤◌
 use Rattle.std.proofs.lemmas.Bool.{lt-ltb}
 use Rattle.gv_types.specs.Memory.{Memory, memory_read}
 use Rattle.gv_types.specs.declared.event.Width.TheVariants.{Eight}
-use Rattle.gv_entry.specs.Tables.{words_of}
+use Rattle.gv_entry.specs.Tables.{frame_words}
 use Rattle.gv_entry.specs.declared.process.Process.{Process}
 use Rattle.gv_gpu.specs.Device.{Device, poked}
 use Rattle.gv_gpu.specs.Part.{outside, tables_part}
@@ -72,7 +72,7 @@ pinned-above d e placed t u pins level frame index p pinned high few low within 
       rw (one, five, six) (pinned.1 h b),
 )
 
-pub read-entry : (m : Memory) (frame index : ℕ) → frame < length m → index < 512 → memory_read m Eight (frame * 4096 + index * 8) ≡ get_or (words_of m frame) index 0
+pub read-entry : (m : Memory) (frame index : ℕ) → frame < length m → index < 512 → memory_read m Eight (frame * 4096 + index * 8) ≡ get_or (frame_words m frame) index 0
 read-entry m frame index low within =
     let inside : ltb (frame * 4096 + index * 8) (length m * 4096) ≡ true = lt-ltb _ _ (omega arith) in
     let number : (frame * 4096 + index * 8) / 8 ≡ frame * 512 + index = omega arith in

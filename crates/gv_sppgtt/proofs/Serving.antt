@@ -8,7 +8,7 @@ use Rattle.std.proofs.lemmas.List.FromFn.{length-range_with_len, get_or-range_wi
 use Rattle.std.proofs.lemmas.Map.Views.{any-filter_same}
 use Rattle.gv_types.specs.Memory.{Memory}
 use Rattle.gv_entry.specs.Entry.{process_entry}
-use Rattle.gv_entry.specs.Tables.{words_of, has_bad_entry}
+use Rattle.gv_entry.specs.Tables.{frame_words, has_bad_entry}
 use Rattle.gv_gpu.specs.Device.{Device}
 use Rattle.gv_guest.specs.Placed.{Placed, memory_in}
 use Rattle.gv_shape.specs.Shadow.{wanted}
@@ -152,7 +152,7 @@ module _ (placed : Placed) (d e : Device) (t u v : Tables) (pins roots came went
 -- a change of one word of memory, seen by what the nodes' words have to stand for
 pub wanted-changed : (m n : Memory) (frame index : ℕ) → ChangedAt m n frame index → (k f i : ℕ) → (k ≤ 4 → f ≡ frame → i ≡ index → ⊥) → wanted n k f i ≡ wanted m k f i
 wanted-changed m n frame index c k f i apart = ⊎_elim
-    (λ low. wanted-low n k f i low ∙ ap (λ w. process_entry w k (length n)) (c.others f i (apart (omega arith))) ∙ ap (process_entry (get_or (words_of m f) i 0) k) c.frames ∙ sym (wanted-low m k f i low))
+    (λ low. wanted-low n k f i low ∙ ap (λ w. process_entry w k (length n)) (c.others f i (apart (omega arith))) ∙ ap (process_entry (get_or (frame_words m f) i 0) k) c.frames ∙ sym (wanted-low m k f i low))
     (λ high. wanted-high n k f i high ∙ sym (wanted-high m k f i high))
     (cases_lt k 5)
 

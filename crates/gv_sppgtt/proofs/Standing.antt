@@ -4,7 +4,7 @@ use Rattle.std.proofs.lemmas.Bool.{cases_lt}
 use Rattle.gv_types.specs.Memory.{Memory}
 use Rattle.gv_entry.specs.declared.process.Process.{Process}
 use Rattle.gv_entry.specs.Entry.{process_entry}
-use Rattle.gv_entry.specs.Tables.{words_of}
+use Rattle.gv_entry.specs.Tables.{frame_words}
 use Rattle.gv_gpu.specs.Device.{Device}
 use Rattle.gv_guest.specs.Placed.{Placed, Hosts, memory_in}
 use Rattle.gv_shape.specs.Shadow.{Names, Readings}
@@ -79,7 +79,7 @@ serving_tables_keep d placed pins t n s same =
         same = λ k f p i is small apart. s.rests.same k f p i is small apart ∙ sym (⊎_elim
             (λ low. wanted-low n k f i low
             ∙ ap (λ (ws : List ℕ). process_entry (get_or ws i 0) k (length n)) (same.words f (shadow.tables k f p (omega arith) is))
-            ∙ ap (process_entry (get_or (words_of m f) i 0) k) same.frames
+            ∙ ap (process_entry (get_or (frame_words m f) i 0) k) same.frames
             ∙ sym (wanted-low m k f i low))
             (λ high. wanted-high n k f i high ∙ sym (wanted-high m k f i high))
             (cases_lt k 5));

@@ -2,7 +2,7 @@
 use Rattle.std.specs.Prelude.{ℕ, ◌+◌, ◌*◌, ◌^◌, ◌<◌, ◌≤◌, ◌≡◌, Bool, true, false, not, ◌&&◌, ◌||◌, ◌==◌, nat_lt, if◌then◌else◌, is_some, List, filter, length, slice_index, Some}
 use Rattle.std.specs.List.{range_with_len}
 use Rattle.gv_types.specs.Memory.{Memory}
-use Rattle.gv_entry.specs.Tables.{words_of, has_bad_entry}
+use Rattle.gv_entry.specs.Tables.{frame_words, has_bad_entry}
 use Rattle.gv_entry.specs.declared.process.Process.TheVariants.{Page}
 use Rattle.gv_gpu.specs.Device.{Device}
 use Rattle.gv_gpu.specs.Part.{outside}
@@ -73,7 +73,7 @@ is_refused m roots root = not (nat_lt root (length m)) || has_bad_entry m (with_
 -- in n one word of a frame is another than in m
 pub record ChangedAt (m n : Memory) (frame index : ℕ) : Type 0 where
   pub frames : length n ≡ length m
-  pub others : (f i : ℕ) → (f ≡ frame → i ≡ index → ⊥) → slice_index (words_of n f) i ≡ slice_index (words_of m f) i
+  pub others : (f i : ℕ) → (f ≡ frame → i ≡ index → ⊥) → slice_index (frame_words n f) i ≡ slice_index (frame_words m f) i
 
 -- how many frames the guest has
 abbrev pub frames_of : Tables → ℕ

@@ -1,5 +1,5 @@
 ghost use Rattle.std.specs.Prelude.{◌≡◌, ℕ, ◌+◌, ◌-◌, ◌*◌, ◌^◌, ◌<◌, ◌≤◌, List, length, Some, None, IfSome, IfOk, OnOk, OnErr, IsErrOf, true, slice_set, IfNone, ◌==◌};
-ghost use Rattle.gv_entry.specs.Tables.{has_bad_entry, entry_of};
+ghost use Rattle.gv_entry.specs.Tables.{has_bad_entry, level_entry};
 ghost use Rattle.gv_entry.specs.declared.process.Process.TheVariants.{Absent, Page, Table};
 ghost use Rattle.gv_gpu.specs.Device.{poked};
 ghost use Rattle.gv_guest.specs.Placed.{Hosts, memory_in};
@@ -247,7 +247,7 @@ impl Tables {
         requires low { 1 ≤ level }
         requires high { level ≤ 4 }
         requires within { index < 512 }
-        ensures { result ≡ entry_of (memory_in (G.state gpu.now) frames.now) level frame index }
+        ensures { result ≡ level_entry (memory_in (G.state gpu.now) frames.now) level frame index }
     {
         let at = u64::from(frame) * PAGE_BYTES + u64::from(index) * 8;
         process_of(frames.read(gpu, at, Width::Eight), level, frames.count())

@@ -1,5 +1,5 @@
 ghost use Rattle.std.specs.Prelude.{◌≡◌, ℕ, ◌+◌, ◌-◌, ◌<◌, ◌≤◌, List, length, Some, None, IfSome, IfNone, OnOk, IsErrOf, true, is_some};
-ghost use Rattle.gv_entry.specs.Tables.{entry_of, has_bad_entry};
+ghost use Rattle.gv_entry.specs.Tables.{level_entry, has_bad_entry};
 ghost use Rattle.gv_entry.specs.declared.process.Process.TheVariants.{Bad};
 ghost use Rattle.gv_gpu.specs.Device.{counted};
 ghost use Rattle.gv_guest.specs.Placed.{memory_in};
@@ -76,7 +76,7 @@ impl Tables {
         ensures pokes { OnOk result ((G.state gpu.new).pokes ≤ (G.state gpu.old).pokes + 1) }
         ensures holds { Holds (G.state gpu.new) frames.now self.new pins.new }
         ensures keeps { Keeps frames.now (G.state gpu.old) (G.state gpu.new) self.old self.new pins.old pins.new }
-        ensures bad { IsErrOf result TableFault.BadEntry → entry_of (memory_in (G.state gpu.old) frames.now) 1 frame index ≡ Bad }
+        ensures bad { IsErrOf result TableFault.BadEntry → level_entry (memory_in (G.state gpu.old) frames.now) 1 frame index ≡ Bad }
     {
         match self.entry(gpu, frames, frame, 1, index) {
             Process::Absent => {

@@ -3,7 +3,7 @@ use Rattle.std.proofs.Common.{◌≡◌, ℕ, ◌+◌, Bool, true, false, List, 
 use Rattle.std.proofs.lemmas.Bool.{eq-eqb}
 use Rattle.std.proofs.lemmas.Bool.Decides.{nat_tests}
 use Rattle.gv_types.specs.Maps.{put}
-use Rattle.gv_gpu.specs.Device.{Device, with_general}
+use Rattle.gv_gpu.specs.Device.{Device, with_engine_general}
 
 -- the device with so many of these registers
 abbrev pub with_first : Device → ℕ → List ℕ → ℕ → Device
@@ -34,5 +34,5 @@ more-at : (d : Device) (engine : ℕ) (kept : List ℕ) (n k r : ℕ) (b : Bool)
 more-at d engine kept n k r true is = ap (λ b. cond (eqb r n) (get_or kept n 0) (cond b (λ r. cond (ltb r n) (get_or kept r 0) (d.general engine r)) (d.general engine) r)) (eq-eqb engine engine refl) ∙ one-more (d.general engine) kept n r
 more-at d engine kept n k r false is = ap (λ b. cond b (λ r. cond (ltb r n) (get_or kept r 0) (d.general engine r)) (d.general k) r) is
 
-pub first-more : (d : Device) (engine : ℕ) (kept : List ℕ) (n : ℕ) → with_general (with_first d engine kept n) engine n (get_or kept n 0) ≡ with_first d engine kept (n + 1)
+pub first-more : (d : Device) (engine : ℕ) (kept : List ℕ) (n : ℕ) → with_engine_general (with_first d engine kept n) engine n (get_or kept n 0) ≡ with_first d engine kept (n + 1)
 first-more d engine kept n = λ i. record d { general = λ k r. more-at d engine kept n k r (eqb k engine) refl i }

@@ -1,7 +1,7 @@
 -- What an exchange makes of an engine.
 use Rattle.std.specs.Prelude.{◌≡◌, ℕ, ◌<◌, nat_lt, if◌then◌else◌, List, Option, None, Some, slice_index_or}
 use Rattle.gv_types.specs.Maps.{put}
-use Rattle.gv_gpu.specs.Context.{submitted}
+use Rattle.gv_gpu.specs.Context.{context_submitted}
 use Rattle.gv_gpu.specs.Device.{Device}
 
 -- these are the sixteen general registers of an engine
@@ -15,4 +15,4 @@ with_registers d engine kept = record d { general = put d.general engine (λ n. 
 -- The context of a descriptor is loaded. Where there is none, what is loaded stays as it is.
 abbrev pub brought : Device → ℕ → ℕ → Option ℕ → Device
 brought d engine guest None = d
-brought d engine guest (Some descriptor) = submitted d engine guest descriptor
+brought d engine guest (Some descriptor) = context_submitted d engine guest descriptor

@@ -3,7 +3,7 @@ use Rattle.std.proofs.Common.{◌≡◌, ℕ, suc, ◌<◌, List, [], ◌∷◌,
 use Rattle.gv_types.specs.declared.event.Width.{Width}
 use Rattle.gv_types.specs.declared.event.Place.{Place}
 use Rattle.std.proofs.lemmas.Bool.Decides.{nat_tests}
-use Rattle.gv_text.specs.Number.{◌>>=◌, number_below, check}
+use Rattle.gv_text.specs.Number.{◌>>=◌, number_below, provided}
 use Rattle.gv_text.specs.Grammar.{value_limit, values_of, address_of, write_access, write_line, more_words, line_of_words}
 use Rattle.gv_text.specs.declared.script_line.Line.{Line}
 
@@ -25,10 +25,10 @@ pub length-values_of : (width : Width) (ws : List (List ℕ)) → IfSome (values
 length-values_of width [] = refl
 length-values_of width (w ∷ ws) = longer (number_below (value_limit width) w) (values_of width ws) (length ws) (length-values_of width ws)
 
-many_refused : (vs : List ℕ) (b : Bool) (line : Line) → 16 < length vs → check (nat_le (length vs) 16 && b) line ≡ None
+many_refused : (vs : List ℕ) (b : Bool) (line : Line) → 16 < length vs → provided (nat_le (length vs) 16 && b) line ≡ None
 many_refused vs b line many =
     let test : nat_le (length vs) 16 ≡ false = grind (arith, nat_tests) in
-    ap (λ t. check (t && b) line) test
+    ap (λ t. provided (t && b) line) test
 
 write_line-many : (place : Place) (width : Width) (g a : List ℕ) (ws : List (List ℕ)) → 16 < length ws → write_line place width g a ws ≡ None
 write_line-many place width g a ws many =

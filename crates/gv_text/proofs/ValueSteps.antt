@@ -6,7 +6,7 @@ use borrow.Author.Tests.{ltb-true}
 use Rattle.std.specs.Borrow.{Bor}
 use Rattle.std.specs.List.{AllByRecursion}
 use Rattle.gv_types.specs.declared.event.Width.{Width}
-use Rattle.gv_text.specs.Number.{◌>>=◌, number_of, number_below, check}
+use Rattle.gv_text.specs.Number.{◌>>=◌, number_of, number_below, provided}
 use Rattle.gv_text.specs.Grammar.{value_limit, values_of}
 
 abbrev pub with_front : List ℕ → Option (List ℕ) → Option (List ℕ)
@@ -40,11 +40,11 @@ module _ (width : Width) (front : List ℕ) (w : List ℕ) (ws : List (List ℕ)
   pub one_more : (v : ℕ) → Some v ≡ number_below (value_limit width) w → with_front front (values_of width (w ∷ ws)) ≡ all → with_front (front ++ v ∷ []) (values_of width ws) ≡ all
   one_more v is kept = again (values_of width ws) front v ∙ ap (λ o. with_front front (o >>= λ v. values_of width ws >>= λ vs. Some (v ∷ vs))) is ∙ kept
 
-checked : (limit n : ℕ) → IfSome (check (nat_lt n limit) n) (λ m. m < limit)
+checked : (limit n : ℕ) → IfSome (provided (nat_lt n limit) n) (λ m. m < limit)
 checked limit n = cond_both (nat_lt n limit) (Some n) None (λ o. IfSome o (λ m. m < limit)) (λ below. ltb-true n limit below) (λ above. tt)
 
 pub below : (limit : ℕ) (word : List ℕ) → IfSome (number_below limit word) (λ n. n < limit)
-below limit word = elim (number_of word) as (λ o. IfSome (o >>= λ n. check (nat_lt n limit) n) (λ n. n < limit)) [ None ↦ tt | Some n ↦ checked limit n ]
+below limit word = elim (number_of word) as (λ o. IfSome (o >>= λ n. provided (nat_lt n limit) n) (λ n. n < limit)) [ None ↦ tt | Some n ↦ checked limit n ]
 
 module _ (P : ℕ → Type 0) where
   both : (o : Option ℕ) (vs : Option (List ℕ)) → IfSome o P → IfSome vs (AllByRecursion P) → IfSome (o >>= λ v. vs >>= λ vs. Some (v ∷ vs)) (AllByRecursion P)

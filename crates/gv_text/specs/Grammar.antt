@@ -4,13 +4,13 @@
 use Rattle.std.specs.Prelude.{ℕ, ◌+◌, ◌-◌, ◌*◌, ◌%◌, ◌^◌, ◌<◌, ◌≤◌, ◌≡◌, List, [], ◌∷◌, Option, Some, None, Bool, true, nat_lt, nat_le, ◌==◌, ◌&&◌, if◌then◌else◌, length, codes}
 use Rattle.std.specs.List.{slice_split, AllByRecursion}
 use Rattle.std.specs.Str.{bytes_eq}
-use Rattle.gv_types.specs.Places.{end_of}
+use Rattle.gv_types.specs.Places.{address_limit}
 use Rattle.gv_types.specs.Memory.{bytes_of}
 use Rattle.gv_types.specs.declared.event.Width.{Width}
 use Rattle.gv_types.specs.declared.event.Width.TheVariants.{Four, Eight}
 use Rattle.gv_types.specs.declared.event.Place.{Place}
 use Rattle.gv_types.specs.declared.event.Place.TheVariants as places
-use Rattle.gv_text.specs.Number.{◌>>=◌, check, number_below}
+use Rattle.gv_text.specs.Number.{◌>>=◌, provided, number_below}
 use Rattle.gv_text.specs.declared.script_line.BadLine.{BadLine}
 use Rattle.gv_text.specs.declared.script_line.Line.{Line}
 use Rattle.gv_text.specs.declared.script_line.Line.TheVariants.{Blank, Guest, Read, Write, Elsp, Turn, Switch, Move, Reset, End}
@@ -42,7 +42,7 @@ value_limit Eight = 2 ^ 64
 
 -- an address is a multiple of the access's bytes
 abbrev pub address_of : Place → Width → List ℕ → Option ℕ
-address_of place width word = number_below (end_of place) word >>= λ at. check (at % bytes_of width == 0) at
+address_of place width word = number_below (address_limit place) word >>= λ at. provided (at % bytes_of width == 0) at
 
 abbrev pub values_of : Width → List (List ℕ) → Option (List ℕ)
 values_of width [] = Some []
@@ -57,7 +57,7 @@ guest_line f l h = do
   frames ← number_below 0x4001 f
   low ← number_below (2 ^ 32) l
   high ← number_below (2 ^ 32) h
-  check (nat_lt 0 frames) (Guest (record { frames = frames; low = low; high = high }))
+  provided (nat_lt 0 frames) (Guest (record { frames = frames; low = low; high = high }))
 
 -- r4 G A, i4 G O, a4 G A, and the same with 8
 abbrev pub read_line : Place → Width → List ℕ → List ℕ → Option Line
@@ -68,7 +68,7 @@ read_line place width g a = do
 
 -- A line has at most 16 values, and the last one's address is in the place.
 abbrev pub values_fit : Place → Width → ℕ → ℕ → Bool
-values_fit place width at count = nat_le count 16 && nat_lt (at + bytes_of width * (count - 1)) (end_of place)
+values_fit place width at count = nat_le count 16 && nat_lt (at + bytes_of width * (count - 1)) (address_limit place)
 
 -- w4 G A V .., o4 G O V .., b4 G A V .., and the same with 8
 abbrev pub write_line : Place → Width → List ℕ → List ℕ → List (List ℕ) → Option Line
@@ -76,7 +76,7 @@ write_line place width g a vs = do
   guest ← number_below 8 g
   at ← address_of place width a
   values ← values_of width vs
-  check (values_fit place width at (length values)) (Write guest place width at values)
+  provided (values_fit place width at (length values)) (Write guest place width at values)
 
 -- elsp G E X Y
 abbrev pub elsp_line : List ℕ → List ℕ → List ℕ → List ℕ → Option Line
@@ -92,7 +92,7 @@ abbrev pub turn_line : List ℕ → List ℕ → Option Line
 turn_line e n = do
   engine ← number_below 4 e
   count ← number_below 0x10001 n
-  check (nat_lt 0 count) (Turn engine count)
+  provided (nat_lt 0 count) (Turn engine count)
 
 -- switch E
 abbrev pub switch_line : List ℕ → Option Line
@@ -147,8 +147,8 @@ line_of_words words = None
 abbrev pub is_space : ℕ → Bool
 is_space b = b == 32
 
-abbrev pub words_of : List ℕ → List (List ℕ)
-words_of bytes = slice_split is_space bytes
+abbrev pub line_words : List ℕ → List (List ℕ)
+line_words bytes = slice_split is_space bytes
 
 abbrev pub says_nothing : List ℕ → Bool
 says_nothing [] = true
@@ -156,7 +156,7 @@ says_nothing (b ∷ bs) = b == 35
 
 -- The line that the bytes are, without their line feed.
 abbrev pub line_of : List ℕ → Option Line
-line_of bytes = if nat_lt 256 (length bytes) then None else (if says_nothing bytes then Some Blank else line_of_words (words_of bytes))
+line_of bytes = if nat_lt 256 (length bytes) then None else (if says_nothing bytes then Some Blank else line_of_words (line_words bytes))
 
 abbrev pub bad_line : BadLine
 bad_line = record {}
@@ -164,9 +164,9 @@ bad_line = record {}
 -- what holds of each line
 abbrev pub IsForm : Line → Type 0
 IsForm (Guest g) = (0 < g.frames) × (g.frames ≤ 0x4000)
-IsForm (Read guest place width at) = (guest < 8) × (at % bytes_of width ≡ 0) × (at < end_of place)
+IsForm (Read guest place width at) = (guest < 8) × (at % bytes_of width ≡ 0) × (at < address_limit place)
 IsForm (Write guest place width at values) = (guest < 8) × (at % bytes_of width ≡ 0) × (0 < length values) × (length values ≤ 16)
-    × (at + bytes_of width * length values ≤ end_of place) × AllByRecursion (λ value. value < value_limit width) values
+    × (at + bytes_of width * length values ≤ address_limit place) × AllByRecursion (λ value. value < value_limit width) values
 IsForm (Elsp guest engine second first) = (guest < 8) × (engine < 4) × (second < 2 ^ 64) × (first < 2 ^ 64)
 IsForm (Turn engine count) = (engine < 4) × (0 < count) × (count ≤ 0x10000)
 IsForm (Switch engine) = engine < 4

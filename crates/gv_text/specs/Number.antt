@@ -7,8 +7,8 @@ None >>= f = None
 (Some x) >>= f = f x
 
 -- x, where the test holds
-abbrev pub check : {A : Type 0} → Bool → A → Option A
-check b x = if b then Some x else None
+abbrev pub provided : {A : Type 0} → Bool → A → Option A
+provided b x = if b then Some x else None
 
 abbrev pub digit_of : ℕ → Option ℕ
 digit_of b = if nat_le 48 b && nat_le b 57 then Some (b - 48) else (if nat_le 97 b && nat_le b 102 then Some (b - 87) else None)
@@ -22,4 +22,4 @@ abbrev pub number_of : List ℕ → Option ℕ
 number_of word = if nat_le 1 (length word) && nat_le (length word) 16 then number_after 0 word else None
 
 abbrev pub number_below : ℕ → List ℕ → Option ℕ
-number_below limit word = number_of word >>= λ n. check (nat_lt n limit) n
+number_below limit word = number_of word >>= λ n. provided (nat_lt n limit) n

@@ -4,7 +4,7 @@ use Rattle.std.specs.List.{slice_split}
 use Rattle.gv_types.specs.Limits.{most_frames}
 use Rattle.gv_types.specs.declared.ranges.Want.{Want}
 use Rattle.gv_balloon.specs.Shares.{nothing_given, fits, given_after}
-use Rattle.gv_text.specs.Number.{◌>>=◌, check}
+use Rattle.gv_text.specs.Number.{◌>>=◌, provided}
 use Rattle.gv_text.specs.Grammar.{line_of}
 use Rattle.gv_text.specs.declared.known.Known.{Known}
 use Rattle.gv_text.specs.declared.script_line.Line.{Line}
@@ -54,7 +54,7 @@ known_after known line = record known { begun = true }
 
 -- the line that the bytes are, where it is accepted
 abbrev pub accepted : Known → List ℕ → Option Line
-accepted known bytes = line_of bytes >>= λ line. check (accepts known line) line
+accepted known bytes = line_of bytes >>= λ line. provided (accepts known line) line
 
 abbrev pub is_end : Line → Bool
 is_end End = true

@@ -1,5 +1,5 @@
 ghost use Rattle.std.specs.Prelude.{◌≡◌, ◌+◌};
-ghost use Rattle.gv_types.specs.Places.{end_of};
+ghost use Rattle.gv_types.specs.Places.{address_limit};
 ghost use Rattle.gv_text.specs.Grammar.{read_access, write_access};
 
 use gv_types::{Place, Width};
@@ -35,7 +35,7 @@ pub(crate) fn write_access(word: &[u8]) -> Option<(Place, Width)>
 }
 
 pub(crate) fn highest_address(place: Place) -> u64
-    ensures { result + 1 ≡ end_of place }
+    ensures { result + 1 ≡ address_limit place }
 {
     match place {
         Place::Memory => u64::MAX,

@@ -1,6 +1,6 @@
 ghost use Rattle.std.specs.Prelude.{◌≡◌, ℕ, ◌+◌, ◌%◌, ◌^◌, ◌<◌, ◌≤◌, length, map, IfSome};
 ghost use Rattle.std.specs.List.{AllByRecursion};
-ghost use Rattle.gv_types.specs.Places.{end_of};
+ghost use Rattle.gv_types.specs.Places.{address_limit};
 ghost use Rattle.gv_types.specs.Memory.{bytes_of};
 ghost use Rattle.gv_text.specs.Number.{number_below};
 ghost use Rattle.gv_text.specs.Grammar.{value_limit, address_of, values_of};
@@ -65,7 +65,7 @@ pub(crate) fn number_u32(word: &[u8]) -> Option<u32>
 pub(crate) fn address(place: Place, width: Width, word: &[u8]) -> Option<u64>
     ensures value { result ≡ address_of place width word.now }
     ensures aligned { IfSome result (λ at. at % bytes_of width ≡ 0) }
-    ensures inside { IfSome result (λ at. at < end_of place) }
+    ensures inside { IfSome result (λ at. at < address_limit place) }
 {
     let at = number_up_to(highest_address(place), word)?;
     if at % width.bytes() == 0 {

@@ -1,5 +1,5 @@
 ghost use Rattle.std.specs.Prelude.{◌≡◌, ℕ, ◌+◌, ◌%◌, ◌^◌, ◌<◌, ◌≤◌, length, map, IfSome, IfOk, ok_or};
-ghost use Rattle.gv_text.specs.Grammar.{one_word, two_words, three_words, four_words, five_words, more_words, access_line, guest_line, elsp_line, turn_line, switch_line, move_line, reset_line, read_line, write_line, line_of_words, words_of, line_of, says_nothing, bad_line, IsForm};
+ghost use Rattle.gv_text.specs.Grammar.{one_word, two_words, three_words, four_words, five_words, more_words, access_line, guest_line, elsp_line, turn_line, switch_line, move_line, reset_line, read_line, write_line, line_of_words, line_words, line_of, says_nothing, bad_line, IsForm};
 
 use crate::access::{highest_address, read_access, write_access};
 use crate::fields::{
@@ -46,7 +46,7 @@ fn is_comment(bytes: &[u8]) -> bool
 }
 
 fn parsed_by_words(bytes: &[u8]) -> Option<Line>
-    ensures value { result ≡ line_of_words (words_of bytes.now) }
+    ensures value { result ≡ line_of_words (line_words bytes.now) }
     ensures form { IfSome result IsForm }
 {
     let mut words = ArrayVec::<&[u8], MOST_WORDS>::new();

@@ -7,7 +7,7 @@ use Rattle.gv_entry.specs.SameTables.{SameTables}
 use Rattle.gv_fetch.specs.Left.{IsLeft, moved}
 use Rattle.gv_gpu.specs.Device.{Device, Loaded, JournalEntry}
 use Rattle.gv_gpu.specs.Part.{Part, outside, step_part}
-use Rattle.gv_gpu.specs.Step.{Stepping, moved as place_moved, ran_after as device_ran_after}
+use Rattle.gv_gpu.specs.Step.{Stepping, next_place, retired}
 use Rattle.gv_gpu.proofs.Effects.{Stays}
 use Rattle.gv_guest.specs.Placed.{Placed}
 use Rattle.gv_place.specs.Place.{StandsFor, Unchanged}
@@ -32,14 +32,14 @@ put-other f k j v differ = ap (λ b. cond b v (f j)) (ne_eqb j k differ)
 
 -- A command that ran moves its context's place and is in the journal.
 outside-ran : (p : Part) (d : Device) (engine : ℕ) (l : Loaded) (c : List ℕ) (n : ℕ) → p.engine engine ≡ true → p.spare ≡ true
-    → outside p (device_ran_after d engine l c n) ≡ record (outside p d) { journal = d.journal ++ shown_entry engine l.owner c ∷ [] }
+    → outside p (retired d engine l c n) ≡ record (outside p d) { journal = d.journal ++ shown_entry engine l.owner c ∷ [] }
 outside-ran p d engine l c n own spare = λ i. record (outside p d) {
   journal = d.journal ++ shown_entry engine l.owner c ∷ [];
   loaded = λ e. at e i;
   spare = (ap (λ b. cond b 0 (d.spare - 1)) spare ∙ sym (ap (λ b. cond b 0 d.spare) spare)) i;
 }
   where
-    at : (e : ℕ) → cond (p.engine e) None (put d.loaded engine (Some (record l { place = place_moved l.place c n })) e) ≡ cond (p.engine e) None (d.loaded e)
+    at : (e : ℕ) → cond (p.engine e) None (put d.loaded engine (Some (record l { place = next_place l.place c n })) e) ≡ cond (p.engine e) None (d.loaded e)
     at e = grind (arith, common_steps)
 
 module _ (d : Device) (placed : Placed) (pages : Pages) (p : PrivateDevice) (engine : ℕ) (w : Working) (l : Loaded) (image : ℕ) (layout : Layout) (at : AtWork d placed pages p engine w l image layout) where
@@ -68,7 +68,7 @@ module _ (d : Device) (placed : Placed) (pages : Pages) (p : PrivateDevice) (eng
 
   module _ (ws c : List ℕ) (n : ℕ) (s : PrivateSpace) (y : Stepping) (same : Same setting s y) (stays : Stays begun y) (above : (k m : ℕ) → 16 ≤ m → y.device.general k m ≡ d.general k m) where
     abbrev pub after : Device
-    after = device_ran_after y.device engine l c n
+    after = retired y.device engine l c n
 
     abbrev pub left : PrivateDevice
     left = ran_after p engine w ws n s
@@ -77,7 +77,7 @@ module _ (d : Device) (placed : Placed) (pages : Pages) (p : PrivateDevice) (eng
     work = record w { left = moved w.left ws n }
 
     abbrev pub context : Loaded
-    context = record l { place = place_moved l.place c n }
+    context = record l { place = next_place l.place c n }
 
     own-engine : left.engines engine ≡ record (p.engines engine) { general = s.general; element = Some work }
     own-engine =

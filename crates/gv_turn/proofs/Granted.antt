@@ -3,8 +3,9 @@ use Rattle.std.proofs.Common.{◌≡◌, ℕ, ◌<◌, Bool, true, false, not, �
 use Rattle.std.proofs.lemmas.Bool.{ltb-true}
 use Rattle.gv_types.specs.Memory.{Memory}
 use Rattle.gv_types.specs.declared.ranges.Ranges.{Ranges}
-use Rattle.gv_entry.specs.Entry.{global_frame, global_frame_of, is_set}
-use Rattle.gv_entry.specs.Global.{entry_of}
+use Rattle.gv_types.specs.Bits.{has_bit}
+use Rattle.gv_entry.specs.Entry.{global_frame, global_frame_of}
+use Rattle.gv_entry.specs.Global.{global_entry}
 use Rattle.gv_entry.specs.Grants.{unless, frame_of, if_writable}
 use Rattle.gv_entry.specs.Ranges.{owns_page}
 use Rattle.gv_entry.specs.Tables.{Mapped, is_guarded}
@@ -26,7 +27,7 @@ unless-low frames guarded None low = tt
 unless-low frames guarded (Some f) low = none_or_low frames f (guarded f) low
 
 global-low : (entry frames : ℕ) → IsLow frames (global_frame entry frames)
-global-low entry frames = by_tests (is_set entry 0) (ltb (global_frame_of entry) frames) refl
+global-low entry frames = by_tests (has_bit entry 0) (ltb (global_frame_of entry) frames) refl
   where
     by_tests : (a b : Bool) → ltb (global_frame_of entry) frames ≡ b → IsLow frames (cond (a && b) (Some (global_frame_of entry)) None)
     by_tests true true is = ltb-true (global_frame_of entry) frames is
@@ -35,8 +36,8 @@ global-low entry frames = by_tests (is_set entry 0) (ltb (global_frame_of entry)
 
 pub page-low : (ranges : Ranges) (entries : List ℕ) (m : Memory) (roots : List ℕ) (page : ℕ) → IsLow (length m) (page_grant_in ranges entries m roots page)
 page-low ranges entries m roots page =
-    low_or_none (length m) (unless (is_guarded m roots) (global_frame (entry_of ranges entries page) (length m))) (owns_page ranges page)
-    (unless-low (length m) (is_guarded m roots) (global_frame (entry_of ranges entries page) (length m)) (global-low (entry_of ranges entries page) (length m)))
+    low_or_none (length m) (unless (is_guarded m roots) (global_frame (global_entry ranges entries page) (length m))) (owns_page ranges page)
+    (unless-low (length m) (is_guarded m roots) (global_frame (global_entry ranges entries page) (length m)) (global-low (global_entry ranges entries page) (length m)))
 
 abbrev pub IsMappedLow : ℕ → Option Mapped → Type 0
 IsMappedLow frames o = IfSome o (λ page. page.frame < frames)

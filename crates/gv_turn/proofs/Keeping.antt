@@ -6,9 +6,9 @@ use Rattle.gv_types.specs.Maps.{put}
 use Rattle.gv_types.specs.declared.event.Width.TheVariants.{Four}
 use Rattle.gv_types.specs.declared.ids.Label.{Label}
 use Rattle.gv_types.specs.declared.ranges.Ranges.{Ranges}
-use Rattle.gv_cmd.specs.Bits.{bit}
+use Rattle.gv_types.specs.Bits.{has_bit}
 use Rattle.gv_csb.specs.Slots.{Execlists, completed, completion_events}
-use Rattle.gv_entry.specs.Global.{entry_of}
+use Rattle.gv_entry.specs.Global.{global_entry}
 use Rattle.gv_entry.specs.Grants.{global_grant}
 use Rattle.gv_entry.specs.Ranges.{InParts, owns_page}
 use Rattle.gv_entry.specs.SameTables.{has, SameTables}
@@ -97,7 +97,7 @@ writes_keep_work d e placed pages p q engine w l image layout at keeps stands me
       shadows = subst (λ roots. Shadows e placed q.memory roots pages) (sym keeps.roots) shadows;
       mirrors = λ page own.
           subst (λ grant. NamesFrame placed grant (e.global page))
-          (sym (λ i. global_grant (keeps.ranges i) (keeps.tables.frames i) (all_guarded i) (entry_of (keeps.ranges i) (keeps.entries i)) page))
+          (sym (λ i. global_grant (keeps.ranges i) (keeps.tables.frames i) (all_guarded i) (global_entry (keeps.ranges i) (keeps.entries i)) page))
           (subst (λ entry. NamesFrame placed (page_grant p page) entry) (sym (ap (λ (f : ℕ → ℕ). f page) (global-kept placed.guest d e frames)))
           (at.mirrors page (subst (λ (r : Ranges). owns_page r page ≡ true) keeps.ranges own)));
       general = keeps.general ∙ at.general ∙ sym (ap (λ (x : Device). x.general engine) frames);
@@ -130,7 +130,7 @@ bits-raise p q of (n ∷ more) is =
 pub raising_keeps_work : RaisingKeepsWork
 raising_keeps_work d placed pages p engine w l image layout at of bits =
     let q = (command_raised p of bits).device in
-    let is : IsRaised p q = bits-raise p p of (filter (bit bits) (user_interrupt ∷ notify ∷ [])) refl in
+    let is : IsRaised p q = bits-raise p p of (filter (has_bit bits) (user_interrupt ∷ notify ∷ [])) refl in
     let keeps : KeepsWork p q engine = subst (λ x. KeepsWork p x engine) (sym is) (record { number = refl; ranges = refl; failsafe = refl; entries = refl; roots = refl; general = refl; element = refl; tables = tables-same p.memory p.roots }) in
     writes_keep_work d d placed pages p q engine w l image layout at keeps at.stands (ap (λ (x : PrivateDevice). x.memory) is ∙ at.memory) refl
 

@@ -5,7 +5,7 @@ use Rattle.gv_cmd.specs.Table.{length_of, read_length}
 use Rattle.gv_entry.specs.Ranges.{InParts}
 use Rattle.gv_gpu.specs.Device.{Device}
 use Rattle.gv_gpu.specs.Physical.{operand_at, dword_at, dword_strays, byte_at, read_strays}
-use Rattle.gv_gpu.specs.Step.{Stepping, is_privileged, front_at, fetched, fetched_from, dwords_stray}
+use Rattle.gv_gpu.specs.Step.{Stepping, runs_privileged, active_head, head_read, head_read_from, dwords_stray}
 use Rattle.gv_place.specs.Place.{ReadsSame}
 use Rattle.gv_place.proofs.Kept.{aligned-test}
 use Rattle.gv_private.specs.Space.{PrivateSpace, operand_read}
@@ -45,6 +45,6 @@ module _ (t : Setting) (parts : InParts t.space.ranges) (x : PrivateSpace) (y : 
   codes-own at zero = refl
   codes-own at (suc n) = neither _ _ (codes-own at n) (code-own (at + 4 * n))
 
-  pub code-straight : is_privileged y.context.place ≡ false → (fetched y.device y.context).strayed ≡ false
-  unfolding fetched
-  code-straight live = ap (λ b. (fetched_from y.device y.context b (front_at y.context)).strayed) live ∙ codes-own (front_at y.context) (read_length (length_of (dword_at y.device y.context.root false (front_at y.context))))
+  pub code-straight : runs_privileged y.context.place ≡ false → (head_read y.device y.context).strayed ≡ false
+  unfolding head_read
+  code-straight live = ap (λ b. (head_read_from y.device y.context b (active_head y.context)).strayed) live ∙ codes-own (active_head y.context) (read_length (length_of (dword_at y.device y.context.root false (active_head y.context))))

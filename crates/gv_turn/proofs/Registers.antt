@@ -7,7 +7,7 @@ use Rattle.gv_cmd.specs.Simulation.{Access, EachAccess, MayDo, Simulates}
 use Rattle.gv_cmd.specs.Table.{kind_of}
 use Rattle.gv_cmd.specs.declared.kind.Kind.{Kind}
 use Rattle.gv_cmd.proofs.Simulation.{effects_agree}
-use Rattle.gv_gpu.specs.Device.{Device, with_general}
+use Rattle.gv_gpu.specs.Device.{Device, with_engine_general}
 use Rattle.gv_gpu.specs.Physical.{word_stored, operand_stored, byte_stored}
 use Rattle.gv_gpu.specs.Step.{Stepping, bytes_stored, operations}
 
@@ -49,7 +49,7 @@ Above d e = (k n : ℕ) → 16 ≤ n → e.general k n ≡ d.general k n
 above-same : (d x y : Device) → y.general ≡ x.general → Above d x → Above d y
 above-same d x y same above k n big = ap (λ (f : ℕ → ℕ → ℕ). f k n) same ∙ above k n big
 
-above-set : (d x : Device) (engine n value : ℕ) → n < 16 → Above d x → Above d (with_general x engine n value)
+above-set : (d x : Device) (engine n value : ℕ) → n < 16 → Above d x → Above d (with_engine_general x engine n value)
 above-set d x engine n value small above k m big = by_engine (eqb k engine) refl ∙ above k m big
   where
     other : m ≢ n

@@ -13,12 +13,12 @@ use Rattle.gv_cmd.specs.Effect.{colour_byte}
 use Rattle.gv_cmd.specs.Simulation.{access, Simulates}
 use Rattle.gv_cmd.proofs.Simulation.{effects_agree}
 use Rattle.gv_entry.specs.Grants.{global_grant}
-use Rattle.gv_entry.specs.Global.{entry_of}
+use Rattle.gv_entry.specs.Global.{global_entry}
 use Rattle.gv_entry.specs.Ranges.{InParts, owns_page}
 use Rattle.gv_entry.specs.SameTables.{SameTables}
 use Rattle.gv_entry.specs.Tables.{walk, is_guarded}
 use Rattle.gv_entry.proofs.SameTables.{tables_decide, unguarded_frame_keeps_tables, same_tables_chain}
-use Rattle.gv_gpu.specs.Device.{Device, Loaded, with_word, with_general as with_device_general}
+use Rattle.gv_gpu.specs.Device.{Device, Loaded, with_page_word, with_engine_general}
 use Rattle.gv_gpu.specs.Part.{Part, outside, step_part, is_frame_of}
 use Rattle.gv_gpu.specs.Physical.{page_of, word_in, word_stored, read_page, write_page, byte_at, byte_stored, operand_at, operand_stored, is_anothers, page_strays, written_strays, walk_strays, read_strays, write_strays}
 use Rattle.gv_gpu.specs.Step.{Stepping, operations, bytes_stored, bytes_stray}
@@ -70,13 +70,13 @@ written_page d placed l (Some f) stands own low = rw (stands.labelled f low, eq-
 
 -- ---- the rest of the device
 
-outside-stored : (p : Part) (d : Device) (page index word : ℕ) → p.page page (d.label page) ≡ true → outside p (with_word d page index word) ≡ outside p d
+outside-stored : (p : Part) (d : Device) (page index word : ℕ) → p.page page (d.label page) ≡ true → outside p (with_page_word d page index word) ≡ outside p d
 outside-stored p d page index word own = λ i. record (outside p d) { words = λ q. at q i }
   where
     at : (q : ℕ) → cond (p.page q (d.label q)) [] (put d.words page (set (d.words page) index word) q) ≡ cond (p.page q (d.label q)) [] (d.words q)
     at q = grind (arith, common_steps)
 
-outside-general : (p : Part) (d : Device) (engine n value : ℕ) → p.engine engine ≡ true → outside p (with_device_general d engine n value) ≡ outside p d
+outside-general : (p : Part) (d : Device) (engine n value : ℕ) → p.engine engine ≡ true → outside p (with_engine_general d engine n value) ≡ outside p d
 outside-general p d engine n value own = λ i. record (outside p d) { general = λ e. at e i }
   where
     at : (e : ℕ) → cond (p.engine e) (λ _. 0) (put d.general engine (put (d.general engine) n value) e) ≡ cond (p.engine e) (λ _. 0) (d.general e)
@@ -190,7 +190,7 @@ module _ (t : Setting) (parts : InParts t.space.ranges) where
           root = same.root;
           shadows = shadows_keep y.device (word_stored y.device (host_page placed (Some f)) at word) placed x.memory n x.roots t.pages keeps tables same.shadows;
           mirrors = λ page own. subst (λ grant. NamesFrame placed grant (y.device.global page))
-              (λ i. global_grant x.ranges (sym tables.frames i) (sym guarded i) (entry_of x.ranges x.entries) page)
+              (λ i. global_grant x.ranges (sym tables.frames i) (sym guarded i) (global_entry x.ranges x.entries) page)
               (same.mirrors page own);
           general = same.general;
           straight = straight;

@@ -11,7 +11,7 @@ use Rattle.gv_cmd.specs.declared.command.Unlisted.{Unlisted as UnlistedError}
 use Rattle.gv_fetch.specs.Left.{IsLeft, is_done, is_privileged, live_command, stands_of, moved}
 use Rattle.gv_fetch.proofs.Moving.{fetched-moves, live-moves}
 use Rattle.gv_gpu.specs.Device.{Device, Loaded}
-use Rattle.gv_gpu.specs.Step.{Stepping, operations, fetched, settled, has_ended, is_privileged as place_privileged, stands_of as place_stands, moved as place_moved, ran_after as device_ran_after, physical_step}
+use Rattle.gv_gpu.specs.Step.{Stepping, operations, head_read, settled, has_ended, runs_privileged, stands_at, next_place, retired, physical_step}
 use Rattle.gv_gpu.specs.declared.step.Step.TheVariants as steps
 use Rattle.gv_gpu.proofs.Effects.{Stays, effect-stays}
 use Rattle.gv_gpu.proofs.Steps.{start, step-front, front-waits}
@@ -25,7 +25,7 @@ use Rattle.gv_place.proofs.Stepping.{ends, same-stands, same-privileged, ran, wa
 use Rattle.gv_private.specs.Device.{PrivateDevice, Working}
 use Rattle.gv_private.specs.Space.{PrivateSpace, space_of, operand_read, private_operations}
 use Rattle.gv_private.specs.Status.{command_raised}
-use Rattle.gv_private.specs.Turn.{Turned, front_words, front_effect, run_by, ran_after as own_ran_after, turned}
+use Rattle.gv_private.specs.Turn.{Turned, front_words, front_effect, run_by, ran_after, turned}
 use Rattle.gv_scan.specs.Layout.{Layout}
 use Rattle.gv_shape.specs.Shadow.{Pages}
 use Rattle.gv_turn.specs.Laws.{StepIsTurn}
@@ -80,10 +80,10 @@ module _ (d : Device) (placed : Placed) (pages : Pages) (p : PrivateDevice) (eng
     may : MayDo (MayReach p.ranges) engine privileged (kind_of ws)
     shape : shape_of c ≡ shape_of ws
     form : IsLeft engine (moved w.left ws n)
-    ran : (raise : ℕ) → (does privileged ws).raise ≡ Some raise → physical_step d engine ≡ record { after = device_ran_after (settled (does privileged ws).after) engine l c n; answer = steps.Ran c raise }
+    ran : (raise : ℕ) → (does privileged ws).raise ≡ Some raise → physical_step d engine ≡ record { after = retired (settled (does privileged ws).after) engine l c n; answer = steps.Ran c raise }
     waits : (does privileged ws).raise ≡ None → physical_step d engine ≡ record { after = settled (does privileged ws).after; answer = steps.Waits }
     stands : KeepsShadow l.owner image d (does privileged ws).after.device
-        → StandsFor (device_ran_after (settled (does privileged ws).after) engine l c n) image layout (record l { place = place_moved l.place c n }) (moved w.left ws n)
+        → StandsFor (retired (settled (does privileged ws).after) engine l c n) image layout (record l { place = next_place l.place c n }) (moved w.left ws n)
 
   module _ (ws c : List ℕ) (n : ℕ) (privileged : Bool) (goes : Goes ws c n privileged) where
     abbrev done : Effect Stepping
@@ -118,7 +118,7 @@ module _ (d : Device) (placed : Placed) (pages : Pages) (p : PrivateDevice) (eng
         as-turned _ is here
 
     abbrev next : Device
-    next = device_ran_after done.after.device engine l c n
+    next = retired done.after.device engine l c n
 
     keeps : KeepsShadow l.owner image d done.after.device
     keeps =
@@ -126,9 +126,9 @@ module _ (d : Device) (placed : Placed) (pages : Pages) (p : PrivateDevice) (eng
         (keeps-shadow placed.guest image d done.after.device
         (unchanged placed.guest engine d done.after.device (ap (λ (x : Device). x.label) stays.rest) (ap (λ (x : Device). x.global) stays.rest) agree.after.outside))
 
-    place : StandsFor next image layout (record l { place = place_moved l.place c n }) (moved w.left ws n)
+    place : StandsFor next image layout (record l { place = next_place l.place c n }) (moved w.left ws n)
     place =
-        subst (λ (x : Device). StandsFor (device_ran_after x engine l c n) image layout (record l { place = place_moved l.place c n }) (moved w.left ws n)) settle (goes.stands keeps)
+        subst (λ (x : Device). StandsFor (retired x engine l c n) image layout (record l { place = next_place l.place c n }) (moved w.left ws n)) settle (goes.stands keeps)
 
     ran-on : (raise : ℕ) → own.raise ≡ Some raise → Is (turned p engine).outcome
     ran-on raise raises =
@@ -137,12 +137,12 @@ module _ (d : Device) (placed : Placed) (pages : Pages) (p : PrivateDevice) (eng
           command = c;
           raise = raise;
           after = next;
-          left = own_ran_after p engine w ws n own.after;
+          left = ran_after p engine w ws n own.after;
           work = record w { left = moved w.left ws n };
-          context = record l { place = place_moved l.place c n };
-          step = goes.ran raise (sym agree.raise ∙ raises) ∙ ap (λ (x : Device). record { after = device_ran_after x engine l c n; answer = steps.Ran c raise }) settle;
+          context = record l { place = next_place l.place c n };
+          step = goes.ran raise (sym agree.raise ∙ raises) ∙ ap (λ (x : Device). record { after = retired x engine l c n; answer = steps.Ran c raise }) settle;
           turn = is ∙ (λ i. record {
-            left = command_raised (own_ran_after p engine w ws n own.after) engine raise;
+            left = command_raised (ran_after p engine w ws n own.after) engine raise;
             outcome = outcomes.Ran;
             ran = record { engine = engine; guest = at.number i; shape = sym goes.shape i } ∷ [];
           });
@@ -202,10 +202,10 @@ module _ (d : Device) (placed : Placed) (pages : Pages) (p : PrivateDevice) (eng
     agrees : ReadsSame d l.root read
     agrees = code-read (setting d placed pages p engine w l image layout at) at.parts space first (begins d placed pages p engine w l image layout at)
 
-    live_place : place_privileged l.place ≡ false
+    live_place : runs_privileged l.place ≡ false
     live_place = same-privileged d image layout engine l w.left at.loaded at.place at.left ∙ live
 
-    straight : (fetched d l).strayed ≡ false
+    straight : (head_read d l).strayed ≡ false
     straight = code-straight (setting d placed pages p engine w l image layout at) at.parts space first (begins d placed pages p engine w l image layout at) live_place
 
     starts : start d engine l ≡ first
@@ -240,8 +240,8 @@ module _ (d : Device) (placed : Placed) (pages : Pages) (p : PrivateDevice) (eng
       live-waits may none =
           let words = live-fetched d image layout l engine w.left read at.place at.left agrees live in
           let not_ended : has_ended l ≡ false = ended-done d image layout l engine w.left at.place at.left ∙ more in
-          let allowed : is_allowed ws (place_stands l.place) engine ≡ true = ap (λ s. is_allowed ws s engine) (same-stands d image layout engine l w.left at.loaded at.place at.left) ∙ may in
-          let same : effect operations ws engine (place_privileged l.place) (start d engine l) ≡ does false ws = ap (λ b. effect operations ws engine b (start d engine l)) live_place ∙ ap started_does starts in
+          let allowed : is_allowed ws (stands_at l.place) engine ≡ true = ap (λ s. is_allowed ws s engine) (same-stands d image layout engine l w.left at.loaded at.place at.left) ∙ may in
+          let same : effect operations ws engine (runs_privileged l.place) (start d engine l) ≡ does false ws = ap (λ b. effect operations ws engine b (start d engine l)) live_place ∙ ap started_does starts in
           step-front d engine l at.loaded not_ended
           ∙ front-waits d engine l ws n (ap decoded words ∙ taken) allowed (ap (λ (e : Effect Stepping). e.raise) same ∙ none)
           ∙ ap (λ (e : Effect Stepping). record { after = settled e.after; answer = steps.Waits }) same
@@ -256,10 +256,10 @@ module _ (d : Device) (placed : Placed) (pages : Pages) (p : PrivateDevice) (eng
         form = live-moves engine ws n w.left at.left live may;
         ran = λ raise raises.
             live-ran d image layout engine l w.left read at.loaded at.place at.left agrees live ws n taken raise may (ap (λ x. (started_does x).raise) starts ∙ raises)
-            ∙ ap (λ x. record { after = device_ran_after (settled (started_does x).after) engine l ws n; answer = steps.Ran ws raise }) starts;
+            ∙ ap (λ x. record { after = retired (settled (started_does x).after) engine l ws n; answer = steps.Ran ws raise }) starts;
         waits = λ none. live-waits may none;
         stands = λ keeps.
-            subst (λ x. StandsFor (device_ran_after (settled (started_does x).after) engine l ws n) image layout (record l { place = place_moved l.place ws n }) (moved w.left ws n)) starts
+            subst (λ x. StandsFor (retired (settled (started_does x).after) engine l ws n) image layout (record l { place = next_place l.place ws n }) (moved w.left ws n)) starts
             (live-stands d image layout engine l w.left read at.loaded at.place at.left agrees live ws n taken may
             (subst (λ x. KeepsShadow l.owner image d (started_does x).after.device) (sym starts) keeps));
       }

@@ -6,7 +6,7 @@ use Rattle.std.proofs.lemmas.List.{same_lists, get_or-map, length-map, length-se
 use Rattle.gv_types.specs.Maps.{put}
 use Rattle.gv_types.specs.Memory.{Memory, half_of, with_half}
 use Rattle.gv_types.specs.declared.event.Width.TheVariants.{Four, Eight}
-use Rattle.gv_entry.specs.Tables.{words_of}
+use Rattle.gv_entry.specs.Tables.{frame_words}
 use Rattle.gv_gpu.specs.Device.{Device}
 use Rattle.gv_gpu.specs.Physical.{word_in, word_stored, is_shadow}
 use Rattle.gv_guest.specs.Placed.{Placed, Hosts, memory_in}
@@ -19,11 +19,11 @@ use Rattle.gv_gpu.specs.Part.{shadow_label}
 -- the word of a granted frame that an address lies in; without a grant 0
 abbrev pub frame_word : Memory → Option ℕ → ℕ → ℕ
 frame_word m None at = 0
-frame_word m (Some frame) at = get_or (words_of m frame) (at % 4096 / 8) 0
+frame_word m (Some frame) at = get_or (frame_words m frame) (at % 4096 / 8) 0
 
 abbrev pub with_frame_word : Memory → Option ℕ → ℕ → ℕ → Memory
 with_frame_word m None at word = m
-with_frame_word m (Some frame) at word = set m frame (set (words_of m frame) (at % 4096 / 8) word)
+with_frame_word m (Some frame) at word = set m frame (set (frame_words m frame) (at % 4096 / 8) word)
 
 -- ---- dwords and words of the private device, by words of frames
 

@@ -9,14 +9,14 @@ use Rattle.gv_entry.specs.SameTables.{has, SameTables}
 use Rattle.gv_fetch.specs.Left.{IsLeft, moved as left_moved}
 use Rattle.gv_gpu.specs.Device.{Device, Loaded, JournalEntry, with_loaded}
 use Rattle.gv_gpu.specs.Part.{outside, step_part}
-use Rattle.gv_gpu.specs.Step.{moved as place_moved, physical_step}
+use Rattle.gv_gpu.specs.Step.{next_place, physical_step}
 use Rattle.gv_gpu.specs.declared.step.Step.TheVariants as steps
 use Rattle.gv_guest.specs.Placed.{Placed, Hosts, memory_in}
 use Rattle.gv_place.specs.Place.{StandsFor, Unchanged}
 use Rattle.gv_private.specs.Device.{PrivateDevice, Working, quietly, fails}
 use Rattle.gv_private.specs.Grants.{page_grant}
 use Rattle.gv_private.specs.Status.{command_raised}
-use Rattle.gv_private.specs.Turn.{JournalEntry as PrivateEntry, front_words, turned_as, finished, turned}
+use Rattle.gv_private.specs.Turn.{RanCommand, front_words, turned_as, finished, turned}
 use Rattle.gv_scan.specs.Layout.{Layout}
 use Rattle.gv_sggtt.specs.Mirror.{NamesFrame}
 use Rattle.gv_shape.specs.Shadow.{Pages}
@@ -91,7 +91,7 @@ pub record FailsAlike (d : Device) (p : PrivateDevice) (engine : ℕ) : Type 0 w
 abbrev pub shown_entry : ℕ → ℕ → List ℕ → JournalEntry
 shown_entry engine guest command = record { engine = engine; owner = guest; shape = shape_of command }
 
-abbrev pub own_entry : ℕ → ℕ → List ℕ → PrivateEntry
+abbrev pub own_entry : ℕ → ℕ → List ℕ → RanCommand
 own_entry engine guest command = record { engine = engine; guest = guest; shape = shape_of command }
 
 -- A command runs: the same in both, with the same interrupt bits, and the element goes on.
@@ -112,7 +112,7 @@ pub record RunsAlike (d : Device) (placed : Placed) (pages : Pages) (p : Private
   pub dwords : ℕ
   pub front : decoded (front_words p engine w) ≡ Ok (own, dwords)
   pub moved : work.left ≡ left_moved w.left own dwords
-  pub place : context.place ≡ place_moved l.place command dwords
+  pub place : context.place ≡ next_place l.place command dwords
   pub works : AtWork after placed pages left engine work context image layout
 
 -- An element at work neither is loaded nor leaves its engine idle.

@@ -7,7 +7,7 @@ use Rattle.std.proofs.lemmas.List.{get_or_past}
 use Rattle.gv_element.specs.Works.{Held, Works, WorksWith, left_of}
 use Rattle.gv_element.proofs.Away.{submitted-works}
 use Rattle.gv_element.proofs.Staying.{work-stays}
-use Rattle.gv_gpu.specs.Context.{context_of, submitted}
+use Rattle.gv_gpu.specs.Context.{context_of, context_submitted}
 use Rattle.gv_gpu.specs.Device.{Device, Loaded, counted, with_faults, with_loaded}
 use Rattle.gv_gpu.specs.Part.{context_part, engine_part, guest_part, outside}
 use Rattle.gv_gtt.specs.Gtt.{number_of, ranges_of}
@@ -66,7 +66,7 @@ module _ (d : Device) (guest engine : ℕ) (kept : List ℕ) (long : length kept
     work = λ x root_page is works. cc;
   }
 
-  brought-some : (x : Held) → IsBrought d (submitted middle engine guest (descriptor_at guest engine)) guest engine kept (Some x)
+  brought-some : (x : Held) → IsBrought d (context_submitted middle engine guest (descriptor_at guest engine)) guest engine kept (Some x)
   brought-some x =
       let l : Loaded = context_of middle guest (descriptor_at guest engine) in
       subst (λ e. IsBrought d e guest engine kept (Some x)) (sym (submitted-context middle engine guest (descriptor_at guest engine) idle)) (record {
@@ -89,7 +89,7 @@ module _ (d : Device) (guest engine : ℕ) (kept : List ℕ) (long : length kept
   is-brought v (Some x) owner is mine stands =
       let own : x.window.guest ≡ guest = stands.works.window.guest_is ∙ sym is in
       subst (λ e. IsBrought d e guest engine kept (Some x))
-      ((λ i. submitted middle engine (sym mine i) (descriptor_at guest engine)) ∙ (λ i. submitted middle engine owner (descriptor_at (sym own i) (sym stands.works.window.engine_is i))))
+      ((λ i. context_submitted middle engine (sym mine i) (descriptor_at guest engine)) ∙ (λ i. context_submitted middle engine owner (descriptor_at (sym own i) (sym stands.works.window.engine_is i))))
       (brought-some x)
 
 -- ---- the guest's device

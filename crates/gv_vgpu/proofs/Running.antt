@@ -20,9 +20,9 @@ use Rattle.gv_mmio.specs.Mmio.{ports_at}
 use Rattle.gv_mmio.specs.Port.{writes_of}
 use Rattle.gv_place.specs.Place.{StandsFor}
 use Rattle.gv_place.specs.Seen.{IsShort}
-use Rattle.gv_private.specs.Device.{Engine as PrivateEngine, PrivateDevice}
+use Rattle.gv_private.specs.Device.{Engine, PrivateDevice}
 use Rattle.gv_private.specs.Status.{command_raised}
-use Rattle.gv_private.specs.Turn.{JournalEntry as PrivateEntry, turned}
+use Rattle.gv_private.specs.Turn.{RanCommand, turned}
 use Rattle.gv_sctx.specs.Context.{FitsDwords}
 use Rattle.gv_sring.specs.Window.{Shows, Window, page_at}
 use Rattle.gv_turn.specs.Owned.{OwnsLeft}
@@ -158,7 +158,7 @@ module _ (d : Device) (v : Vgpu) (here : ℕ → Bool) (engine : ℕ) (x : Held)
 
   -- ---- the private device
 
-  abbrev in-private : Device → ℕ → PrivateEngine
+  abbrev in-private : Device → ℕ → Engine
   in-private e k = record (engine_in e number k (here k) (engine_at v k)) { writes = writes_of (ports_at v.mmio k).port; slots = (ports_at v.mmio k).slots }
 
   element-still : (k : ℕ) (element : Option Held) → k ≢ engine → StandsOn d v k (here k) element → element_in after number k (here k) element ≡ element_in d number k (here k) element
@@ -198,7 +198,7 @@ module _ (d : Device) (v : Vgpu) (here : ℕ → Bool) (engine : ℕ) (x : Held)
 
   -- ---- the turn
 
-  abbrev ran : List PrivateEntry
+  abbrev ran : List RanCommand
   ran = own_entry engine number runs.command ∷ []
 
   ran-keeps : Keeps here (journalled d ran) after v v

@@ -12,7 +12,7 @@ use Rattle.gv_gpu.specs.declared.step.Step.TheVariants as steps
 use Rattle.gv_gtt.specs.Gtt.{frames_of, nodes_in, number_of, ranges_of}
 use Rattle.gv_guest.specs.Placed.{Placed}
 use Rattle.gv_private.specs.Device.{PrivateDevice, Working, fails, quietly}
-use Rattle.gv_private.specs.Turn.{JournalEntry as PrivateEntry, turned}
+use Rattle.gv_private.specs.Turn.{RanCommand, turned}
 use Rattle.gv_scan.specs.Layout.{Layout}
 use Rattle.gv_shape.specs.Shadow.{Pages}
 use Rattle.gv_sring.specs.Window.{page_at}
@@ -122,7 +122,7 @@ pub keeps-none : (d : Device) (v : Vgpu) (here : ℕ → Bool) → Holds d v her
 keeps-none d v here holds = record { holds = holds; changes = record { number = refl; frames = refl; ranges = refl; outside = refl; live = λ enough. refl }; copies = comes-none d v v (λ k. refl) }
 
 -- no command ran
-pub none-ran : (here : ℕ → Bool) (d e : Device) (old new : Vgpu) (ran : List PrivateEntry) → ran ≡ [] → Keeps here d e old new → MayLoad here (journalled d ran) e old new
+pub none-ran : (here : ℕ → Bool) (d e : Device) (old new : Vgpu) (ran : List RanCommand) → ran ≡ [] → Keeps here d e old new → MayLoad here (journalled d ran) e old new
 none-ran here d e old new ran none keeps =
     subst (λ ran. MayLoad here (journalled d ran) e old new) (sym none)
     (subst (λ journal. MayLoad here (record d { journal = journal }) e old new) (sym (append-nil d.journal)) (may-load here d e old new keeps))

@@ -1,7 +1,7 @@
 -- What writes of a guest's memory and tables leave.
 use Rattle.std.proofs.Common.{◌≡◌, ℕ, Bool, length, slice_index_or, sym, ◌∙◌}
 use Rattle.gv_types.specs.declared.event.Width.{Width}
-use Rattle.gv_entry.specs.Global.{entry_of, with_entry}
+use Rattle.gv_entry.specs.Global.{global_entry, with_entry}
 use Rattle.gv_gpu.specs.Device.{Device}
 use Rattle.gv_gtt.specs.Changes.{Changes}
 use Rattle.gv_gtt.specs.Gtt.{frames_of, gtt_part, over, ranges_of, entries_of}
@@ -38,7 +38,7 @@ module _ (d e : Device) (old new : Vgpu) (here : ℕ → Bool) (holds : Holds d 
 
   -- a write of an entry of the global table
   pub table-written :
-      (width : Width) (offset value entry : ℕ) → entry ≡ entry_after width offset (entry_of (ranges_of old.gtt) (entries_of old.gtt) (page_at offset)) value
+      (width : Width) (offset value entry : ℕ) → entry ≡ entry_after width offset (global_entry (ranges_of old.gtt) (entries_of old.gtt) (page_at offset)) value
       → ((p : PrivateDevice) → over p e new.gtt ≡ record (over p d old.gtt) { entries = with_entry (ranges_of old.gtt) (entries_of old.gtt) (page_at offset) entry })
       → private_of e new here ≡ table_written (private_of d old here) width offset value
   table-written width offset value entry is written =
@@ -46,5 +46,5 @@ module _ (d e : Device) (old new : Vgpu) (here : ℕ → Bool) (holds : Holds d 
       ∙ written (private_of d old here)
       ∙ (λ i. record (over-private d old here holds i) { entries = with_entry (sym holds.ranges i) (entries_of old.gtt) (page_at offset) (entry-path i) })
     where
-      entry-path : entry ≡ (entry_after width offset (entry_of (private_of d old here).ranges (entries_of old.gtt) (page_at offset)) value)
-      entry-path = is ∙ (λ i. entry_after width offset (entry_of (sym holds.ranges i) (entries_of old.gtt) (page_at offset)) value)
+      entry-path : entry ≡ (entry_after width offset (global_entry (private_of d old here).ranges (entries_of old.gtt) (page_at offset)) value)
+      entry-path = is ∙ (λ i. entry_after width offset (global_entry (sym holds.ranges i) (entries_of old.gtt) (page_at offset)) value)

@@ -5,7 +5,7 @@ use Rattle.std.proofs.lemmas.Bool.Decides.{nat_tests}
 use Rattle.std.proofs.lemmas.Grind.{same_number_lists}
 use Rattle.std.proofs.lemmas.List.{get_or-replicate, get_or-set_same}
 use Rattle.gv_types.specs.Maps.{put}
-use Rattle.gv_gpu.specs.Device.{Device, with_general}
+use Rattle.gv_gpu.specs.Device.{Device, with_engine_general}
 use Rattle.gv_vgpu.specs.Vgpu.{no_engine}
 use Rattle.gv_vgpu.specs.Reset.{zero_engine}
 use Rattle.gv_vgpu.specs.declared.engine.Engine.{Engine}
@@ -39,7 +39,7 @@ more-at : (d : Device) (engine n k r : ℕ) (b : Bool) → eqb k engine ≡ b
 more-at d engine n k r true is = ap (λ b. cond (eqb r n) 0 (cond b (λ r. cond (ltb r n) 0 (d.general engine r)) (d.general engine) r)) (eq-eqb engine engine refl) ∙ one-more (d.general engine) n r
 more-at d engine n k r false is = ap (λ b. cond b (λ r. cond (ltb r n) 0 (d.general engine r)) (d.general k) r) is
 
-pub zeroed-more : (d : Device) (engine n : ℕ) → with_general (zeroed d engine n) engine n 0 ≡ zeroed d engine (n + 1)
+pub zeroed-more : (d : Device) (engine n : ℕ) → with_engine_general (zeroed d engine n) engine n 0 ≡ zeroed d engine (n + 1)
 zeroed-more d engine n = λ i. record d { general = λ k r. more-at d engine n k r (eqb k engine) refl i }
 
 -- sixteen zeros

@@ -1,7 +1,7 @@
 -- An access of a guest, or a move of a frame, and its reply.
 use Rattle.std.specs.Prelude.{◌≡◌, ℕ, ◌+◌, ◌/◌, ◌%◌, ◌<◌, ◌≤◌, Bool, Option, None, ⊤}
 use Rattle.gv_types.specs.Memory.{bytes_of, all_ones}
-use Rattle.gv_types.specs.Places.{end_of}
+use Rattle.gv_types.specs.Places.{address_limit}
 use Rattle.gv_types.specs.declared.event.Event.{Event}
 use Rattle.gv_types.specs.declared.event.Place.{Place}
 use Rattle.gv_types.specs.declared.event.Place.TheVariants as places
@@ -25,8 +25,8 @@ use Rattle.gv_vgpu.specs.declared.vgpu.Vgpu.{Vgpu}
 -- A read or a write of a guest, which is aligned and within its place, and whose value fits; or a move of a frame that
 -- the guest has, of so many.
 abbrev pub IsAccess : ℕ → ℕ → Event → Type 0
-IsAccess number frames (Read guest place width at) = (guest.0 ≡ number) × (at % bytes_of width ≡ 0) × (at < end_of place)
-IsAccess number frames (Write guest place width at value) = (guest.0 ≡ number) × (at % bytes_of width ≡ 0) × (at < end_of place) × (value ≤ all_ones width)
+IsAccess number frames (Read guest place width at) = (guest.0 ≡ number) × (at % bytes_of width ≡ 0) × (at < address_limit place)
+IsAccess number frames (Write guest place width at value) = (guest.0 ≡ number) × (at % bytes_of width ≡ 0) × (at < address_limit place) × (value ≤ all_ones width)
 IsAccess number frames (Move guest frame) = (guest.0 ≡ number) × (frame < frames)
 IsAccess number frames event = ⊥
 

@@ -12,7 +12,7 @@ use Rattle.gv_gpu.specs.Device.{Device, JournalEntry, counted, with_faults}
 use Rattle.gv_gpu.specs.Part.{outside, guest_part}
 use Rattle.gv_gtt.specs.Gtt.{frames_of, memory_of, number_of, own_pages, ranges_of}
 use Rattle.gv_private.specs.Device.{Written}
-use Rattle.gv_private.specs.Turn.{JournalEntry as PrivateEntry, Turned}
+use Rattle.gv_private.specs.Turn.{RanCommand, Turned}
 use Rattle.gv_vgpu.specs.Copies.{CopiesStay, NoneComes}
 use Rattle.gv_vgpu.specs.Vgpu.{engine_at, private_of}
 use Rattle.gv_vgpu.specs.Standing.{Holds, Occupies}
@@ -90,12 +90,12 @@ pub record Stops (here : ℕ → Bool) (d e : Device) (old : Vgpu) (stop : Stop)
 -- ---- a turn
 
 -- a command that ran, as the shared device's journal has it
-abbrev pub entry_of : PrivateEntry → JournalEntry
-entry_of entry = record { engine = entry.engine; owner = entry.guest; shape = entry.shape }
+abbrev pub journal_entry : RanCommand → JournalEntry
+journal_entry entry = record { engine = entry.engine; owner = entry.guest; shape = entry.shape }
 
 -- the device with these commands in its journal
-abbrev pub journalled : Device → List PrivateEntry → Device
-journalled d ran = record d { journal = d.journal ++ map entry_of ran }
+abbrev pub journalled : Device → List RanCommand → Device
+journalled d ran = record d { journal = d.journal ++ map journal_entry ran }
 
 -- A turn makes of the private device what this says, and the device's journal has the command that ran.
 pub record Turns (here : ℕ → Bool) (d e : Device) (old new : Vgpu) (t : Turned) (outcome : Outcome) (notice : Notice) : Type 0 where

@@ -1,6 +1,6 @@
 ghost use Rattle.std.specs.Prelude.{◌≡◌, ◌%◌, ◌<◌, ◌≤◌, ◌⊎◌, false, IfOk, IfErr, IsErrOf, IsSome, OnOk};
 ghost use Rattle.gv_types.specs.Memory.{bytes_of, all_ones};
-ghost use Rattle.gv_types.specs.Places.{end_of};
+ghost use Rattle.gv_types.specs.Places.{address_limit};
 ghost use Rattle.gv_private.specs.Access.{dwords_written, range_written, table_at, value_written};
 ghost use Rattle.gv_private.specs.Registers.{dword_written};
 ghost use Rattle.gv_vgpu.specs.Access.{WritePokes};
@@ -154,7 +154,7 @@ impl Vgpu {
     ) -> Result<Notice, Stop>
         requires holds { Holds (G.state gpu.old) self.old (is_here here) }
         requires aligned { at % bytes_of width ≡ 0 }
-        requires below { at < end_of place }
+        requires below { at < address_limit place }
         requires fits { value ≤ all_ones width }
         ensures written { IfOk result (λ notice. Makes (is_here here) (G.state gpu.old) (G.state gpu.new) self.old self.new (value_written (private_of (G.state gpu.old) self.old (is_here here)) place width at value) notice) }
         ensures stops { IfErr result (λ stop. Stops (is_here here) (G.state gpu.old) (G.state gpu.new) self.old stop) }

@@ -1,5 +1,5 @@
 ghost use Rattle.std.specs.Prelude.{◌≡◌, ◌%◌, ◌^◌, ◌<◌, ◌≤◌};
-ghost use Rattle.gv_types.specs.Places.{end_of};
+ghost use Rattle.gv_types.specs.Places.{address_limit};
 ghost use Rattle.gv_types.specs.Memory.{bytes_of};
 ghost use Rattle.gv_private.specs.Access.{aperture_read, table_at, dwords_read, range_read, table_read, value_read};
 ghost use Rattle.gv_private.specs.Registers.{dword_read, general_read};
@@ -28,7 +28,7 @@ impl Vgpu {
     ) -> u64
         requires holds { Holds (G.state gpu.now) self.now (is_here here) }
         requires aligned { at % bytes_of width ≡ 0 }
-        requires below { at < end_of place }
+        requires below { at < address_limit place }
         ensures { result ≡ value_read (private_of (G.state gpu.now) self.now (is_here here)) place width at }
     {
         match place {

@@ -1,6 +1,6 @@
 ghost use Rattle.std.specs.Prelude.{◌≡◌, ◌≢◌, ℕ, ◌%◌, ◌^◌, ◌<◌, ◌≤◌, length};
 ghost use Rattle.gv_types.specs.Memory.{bytes_of, all_ones};
-ghost use Rattle.gv_entry.specs.Global.{entry_of};
+ghost use Rattle.gv_entry.specs.Global.{global_entry};
 ghost use Rattle.gv_gtt.specs.Gtt.{ranges_of, entries_of};
 ghost use Rattle.gv_private.specs.Access.{aperture_written, entry_after, page_at, table_at, table_written};
 ghost use Rattle.gv_private.specs.Registers.{general_written};
@@ -42,7 +42,7 @@ impl Vgpu {
         requires from { table_at ≤ offset }
         requires below { offset < 0x1000000 }
         requires fits { value ≤ all_ones width }
-        ensures { result ≡ entry_after width offset (entry_of (ranges_of self.now.gtt) (entries_of self.now.gtt) (page_at offset)) value }
+        ensures { result ≡ entry_after width offset (global_entry (ranges_of self.now.gtt) (entries_of self.now.gtt) (page_at offset)) value }
     {
         match width {
             Width::Four => {

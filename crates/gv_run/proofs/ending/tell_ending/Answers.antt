@@ -1,5 +1,5 @@
 use Rattle.std.proofs.Common.{◌≡◌, ℕ, List, Option, [], ◌∷◌, ◌++◌, sym, ap, subst}
-use Rattle.gv_lines.specs.Outlet.{Got, GetsFront, Passes, got}
+use Rattle.gv_lines.specs.Outlet.{Delivery, GetsFront, Passes, got}
 use Rattle.gv_lines.specs.declared.outlet.Outlet.{Outlet}
 use Rattle.gv_lines.proofs.Passing.{passes-none}
 use Rattle.gv_text.specs.Report.{text_of}
@@ -15,7 +15,7 @@ use Rattle.gv_run.proofs.ending.tell_ending.Goals.{in-Done+in_ok-tell_guests-in-
 
 -- What was told before the last line, by the branches.
 module _ (now : List ℕ) (all : List ReportLine) where
-  of_branch : {K : Type 0} (held : K → Option (List ℕ)) (start : Got) (last is_last : ReportLine) (report is_report : List ℕ) (outlet is_outlet : Outlet) (sink is_sink : K)
+  of_branch : {K : Type 0} (held : K → Option (List ℕ)) (start : Delivery) (last is_last : ReportLine) (report is_report : List ℕ) (outlet is_outlet : Outlet) (sink is_sink : K)
       → last ≡ is_last → report ≡ is_report → outlet ≡ is_outlet → sink ≡ is_sink
       → TellsFront now all is_last is_report start (got is_outlet (held is_sink)) → TellsFront now all last report start (got outlet (held sink))
   of_branch held start last is_last report is_report outlet is_outlet sink is_sink e f o h front =
@@ -25,7 +25,7 @@ module _ (now : List ℕ) (all : List ReportLine) where
       (subst (λ k. TellsFront now all is_last is_report start (got is_outlet (held k))) (sym h) front)))
 
   -- nothing was told before
-  alone : (start : Got) (last : ReportLine) → last ∷ [] ≡ all → TellsFront now all last now start start
+  alone : (start : Delivery) (last : ReportLine) → last ∷ [] ≡ all → TellsFront now all last now start start
   alone start last is = record { front = []; whole = is; passed = subst (λ l. Passes l now start start) (said_none now) (passes-none now start) }
 
 pub returns-in_err-tell_guests-in-Done-clause-part : goal.returns-in_err-tell_guests-in-Done-clause-part

@@ -3,7 +3,7 @@ use Rattle.std.proofs.lemmas.List.{drop_all}
 use Rattle.gv_types.specs.declared.event.Event.TheVariants.{Write}
 use Rattle.gv_types.specs.declared.event.Place.TheVariants.{Registers}
 use Rattle.gv_types.specs.declared.event.Width.TheVariants.{Four}
-use Rattle.gv_cmd.specs.Effect.{base_of}
+use Rattle.gv_types.specs.Engines.{register_base}
 use Rattle.gv_gpu.specs.Change.{RanPart}
 use Rattle.gv_private.specs.Inputs.{event}
 use Rattle.gv_machine.specs.Machine.{input_course, port_writes}
@@ -51,7 +51,7 @@ loop-value-preserved g c =
     record {
       stands = c.in_ok-event.ensures.stands;
       quiet = c.in_ok-event.ensures.quiet ∙ c.loop-value.invariant.quiet;
-      going = going-on (machine_of start c.args.mediator.now) (port values) c.args.report.now start m (write (base_of c.args.engine)) (port (drop (i + 1) values)) (port (drop i values)) c.loop-value.report d c.loop-value.invariant.going
+      going = going-on (machine_of start c.args.mediator.now) (port values) c.args.report.now start m (write (register_base c.args.engine)) (port (drop (i + 1) values)) (port (drop i values)) c.loop-value.report d c.loop-value.invariant.going
           (port-first c.args.guest c.args.engine values i (omega arith)) after c.event.new.report e plays;
     }
 
@@ -66,7 +66,7 @@ returns-in_err-event-clause-part g c =
     let port = λ (xs : List ℕ). port_writes c.args.guest c.args.engine xs in
     let write = λ (base : ℕ). event (Write c.args.guest Registers Four (base + 0x230) (get_or values i 0)) in
     let part = subst (λ b. RanPart d e (entries_in (input_course m (write b)).came)) c.base_of.ensures c.event.ensures.part in
-    going-part (machine_of start c.args.mediator.now) (port values) c.args.report.now start m (write (base_of c.args.engine)) (port (drop (i + 1) values)) (port (drop i values)) c.loop-value.report d c.loop-value.invariant.going
+    going-part (machine_of start c.args.mediator.now) (port values) c.args.report.now start m (write (register_base c.args.engine)) (port (drop (i + 1) values)) (port (drop i values)) c.loop-value.report d c.loop-value.invariant.going
     (port-first c.args.guest c.args.engine values i (omega arith)) e part
 
 pub returns-clause-done : goal.returns-clause-done

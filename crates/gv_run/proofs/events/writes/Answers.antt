@@ -1,7 +1,7 @@
 use Rattle.std.proofs.Common.{◌≡◌, ℕ, ◌+◌, ◌*◌, ◌%◌, ◌<◌, length, get_or, drop, refl, sym, ap, subst, arith, ◌∙◌}
 use Rattle.std.proofs.lemmas.List.{drop_all}
 use Rattle.gv_types.specs.Memory.{bytes_of}
-use Rattle.gv_types.specs.Places.{end_of}
+use Rattle.gv_types.specs.Places.{address_limit}
 use Rattle.gv_types.specs.declared.event.Event.TheVariants.{Write}
 use Rattle.gv_gpu.specs.Change.{RanPart}
 use Rattle.gv_private.specs.Inputs.{event}
@@ -36,7 +36,7 @@ event-requires-clause-event g c =
       (
         refl,
         subst (λ b. (at + b * i) % bytes_of width ≡ 0) (sym c.bytes.ensures) (still-aligned width at i c.requires.aligned),
-        subst (λ b. at + b * i < end_of c.args.place) (sym c.bytes.ensures) (inside-place width at i (length c.args.values.now) (end_of c.args.place) there c.requires.within),
+        subst (λ b. at + b * i < address_limit c.args.place) (sym c.bytes.ensures) (inside-place width at i (length c.args.values.now) (address_limit c.args.place) there c.requires.within),
         value-fits width (get_or c.args.values.now i 0) (all-at (λ value. value < value_limit width) c.args.values.now i c.requires.fit there),
       ),
     )

@@ -1,11 +1,11 @@
 use Rattle.std.proofs.Common.{◌≡◌, ℕ, zero, suc, ◌+◌, ◌/◌, ◌<◌, refl, ap, ◌∙◌, arith}
 use Rattle.gv_types.specs.declared.ranges.Ranges.{Ranges}
-use Rattle.gv_cmd.specs.Effect.{base_of}
+use Rattle.gv_types.specs.Engines.{register_base}
 use Rattle.gv_regs.specs.Registers.{map_of, register_read}
 use Rattle.gv_regs.specs.Table.{row_at}
 use Rattle.gv_mmio.proofs.mmio.Mmio.status_page.Goals as goal
 
-kept : (engine g : ℕ) (ranges : Ranges) (map : ℕ → ℕ) → engine < 4 → register_read g ranges map (base_of engine + 0x80) ≡ map (base_of engine + 0x80)
+kept : (engine g : ℕ) (ranges : Ranges) (map : ℕ → ℕ) → engine < 4 → register_read g ranges map (register_base engine + 0x80) ≡ map (register_base engine + 0x80)
 unfolding row_at
 kept zero g ranges map small = refl
 kept (suc zero) g ranges map small = refl

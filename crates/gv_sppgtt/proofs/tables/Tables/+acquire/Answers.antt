@@ -3,7 +3,7 @@ use Rattle.gv_sppgtt.specs.declared.tables.TableFault.TheVariants.{BadEntry}
 use Rattle.std.proofs.Common.{Result, Err, ℕ, ◌≡◌, ◌-◌, ◌<◌, ◌≤◌, None, Some, Option, length, get_or, sym, ap, ◌∙◌, subst, refl, arith, true}
 use Rattle.gv_types.specs.Memory.{Memory}
 use Rattle.gv_entry.specs.declared.process.Process.TheVariants.{Table}
-use Rattle.gv_entry.specs.Tables.{entry_of, words_of}
+use Rattle.gv_entry.specs.Tables.{level_entry, frame_words}
 use Rattle.gv_guest.specs.Placed.{memory_in}
 use Rattle.gv_nodes.specs.declared.nodes.Node.{Node}
 use Rattle.gv_nodes.specs.NodeOf.{node_of}
@@ -108,7 +108,7 @@ same_fault : (x y : TableFault) → ◌≡◌ {A = Result (Unit {0}) TableFault}
 same_fault x y e = cc
 
 module _ (m : Memory) (level frame index h lower : ℕ) (below : lower < 5) (is : naming lower h ≡ wanted m level frame index) (few : level ≤ 4) where
-  names_table : entry_of m level frame index ≡ Table h
+  names_table : level_entry m level frame index ≡ Table h
   names_table = sym (wanted-low m level frame index (omega arith)) ∙ sym is ∙ naming-low lower h below
 
 pub fill-returns-in-Err-clause-bad : goal.fill-returns-in-Err-clause-bad
@@ -121,7 +121,7 @@ fill-returns-in-Err-clause-bad g t c is roots live =
     let fault = ap (λ e. Err e) (same_fault c.in-Err.fault BadEntry is) in
     let low : c.in-Node.lower < 5 = (let l = c.in-Err.ensures.good fault in omega arith) in
     let entry = names_table m c.args.level c.args.frame c.args.index c.in-Node.to c.in-Node.lower low c.in-Node.ensures.is below.four in
-    let table = table-is (get_or (words_of m c.args.frame) c.args.index 0) c.args.level (length m) c.in-Node.to c.requires.low entry in
+    let table = table-is (get_or (frame_words m c.args.frame) c.args.index 0) c.args.level (length m) c.in-Node.to c.requires.low entry in
     let up = above-low c.in-Node.lower low in
     let at : c.args.level - 1 ≡ c.in-Node.lower = (let x = below.above in omega arith) in
     c.in-Err.ensures.bad fault roots

@@ -1,5 +1,5 @@
 use Rattle.std.proofs.Common.{Result, Err, Option, ◌≡◌, ◌-◌, ◌<◌, length, get_or, sym, ap, ◌∙◌, subst, arith, true}
-use Rattle.gv_entry.specs.Tables.{words_of}
+use Rattle.gv_entry.specs.Tables.{frame_words}
 use Rattle.gv_guest.specs.Placed.{memory_in}
 use Rattle.gv_sppgtt.specs.State.{sketch_of}
 use Rattle.gv_sppgtt.specs.declared.tables.TableFault.{TableFault}
@@ -38,7 +38,7 @@ returns-in-Err-clause-bad g c is roots live =
     let fault = ap (λ e. Err e) (same_fault c.in-Err.fault BadEntry is) in
     let low : c.in-Node.lower < 5 = (let l = c.in-Err.ensures.good fault in omega arith) in
     let entry = sym (wanted-low m c.args.level c.args.frame c.args.index (let f = below.four in omega arith)) ∙ sym c.in-Node.ensures.is ∙ naming-low c.in-Node.lower c.in-Node.to low in
-    let table = table-is (get_or (words_of m c.args.frame) c.args.index 0) c.args.level (length m) c.in-Node.to (omega arith) entry in
+    let table = table-is (get_or (frame_words m c.args.frame) c.args.index 0) c.args.level (length m) c.in-Node.to (omega arith) entry in
     let up = above-low c.in-Node.lower low in
     let at : c.args.level - 1 ≡ c.in-Node.lower = (let x = below.above in omega arith) in
     c.in-Err.ensures.bad fault roots

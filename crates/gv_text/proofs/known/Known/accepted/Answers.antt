@@ -1,6 +1,6 @@
 use Rattle.std.proofs.Common.{◌≡◌, ℕ, List, Bool, Option, Some, None, Result, refl, ap, sym, ◌∙◌, ok_or}
 use Rattle.std.specs.Result.{result_ok}
-use Rattle.gv_text.specs.Number.{◌>>=◌, check}
+use Rattle.gv_text.specs.Number.{◌>>=◌, provided}
 use Rattle.gv_text.specs.Grammar.{line_of, bad_line}
 use Rattle.gv_text.specs.Script.{accepts, accepted}
 use Rattle.gv_text.specs.declared.script_line.BadLine.{BadLine}
@@ -17,10 +17,10 @@ told : (bytes : List ℕ) (o line : Option Line) (result : Result Line BadLine) 
 told bytes o line result value ok was = sym (result_ok-ok_or (line_of bytes) bad_line) ∙ ap result_ok (sym value) ∙ sym ok ∙ was
 
 no_line : (known : Known) (bytes : List ℕ) → line_of bytes ≡ None → accepted known bytes ≡ None
-no_line known bytes is = ap (λ o. o >>= λ line. check (accepts known line) line) is
+no_line known bytes is = ap (λ o. o >>= λ line. provided (accepts known line) line) is
 
-accepted_line : (known : Known) (bytes : List ℕ) (line : Line) (b : Bool) → line_of bytes ≡ Some line → accepts known line ≡ b → accepted known bytes ≡ check b line
-accepted_line known bytes line b is test = ap (λ o. o >>= λ line. check (accepts known line) line) is ∙ ap (λ b. check b line) test
+accepted_line : (known : Known) (bytes : List ℕ) (line : Line) (b : Bool) → line_of bytes ≡ Some line → accepts known line ≡ b → accepted known bytes ≡ provided b line
+accepted_line known bytes line b is test = ap (λ o. o >>= λ line. provided (accepts known line) line) is ∙ ap (λ b. provided b line) test
 
 pub returns-in_err-line-clause-value : goal.returns-in_err-line-clause-value
 returns-in_err-line-clause-value c =
