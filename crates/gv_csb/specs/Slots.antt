@@ -1,6 +1,7 @@
 -- Submission to one engine, and its context status buffer.
 use Rattle.std.specs.Prelude.{ℕ, ◌+◌, ◌-◌, ◌*◌, ◌/◌, ◌%◌, ◌^◌, ◌<◌, ◌≤◌, ◌≡◌, ◌≢◌, Bool, true, false, not, ◌==◌, ◌&&◌, ◌||◌, if◌then◌else◌, List, [], ◌∷◌, length, replicate, slice_set, bit_and, bit_or, Option, Some, None}
 use Rattle.std.specs.List.{AllByRecursion}
+use Rattle.gv_types.specs.Bits.{has_lowest_bit}
 use Rattle.gv_csb.specs.declared.status.Status.{Status}
 use Rattle.gv_csb.specs.declared.slots.Submitted.{Submitted}
 use Rattle.gv_csb.specs.declared.slots.Submitted.TheVariants.{Dropped, Accepted}
@@ -21,7 +22,7 @@ reset_execlists = record { running = []; pending = []; pairs = replicate 6 (0, 0
 
 -- bit 0 of a descriptor, and the context's number in its high half
 abbrev pub is_valid : ℕ → Bool
-is_valid descriptor = descriptor % 2 == 1
+is_valid descriptor = has_lowest_bit descriptor
 
 abbrev pub context_number : ℕ → ℕ
 context_number descriptor = descriptor / 2 ^ 32

@@ -1,5 +1,6 @@
 -- The register state of a context: what an engine reads of its second page, given as dwords.
 use Rattle.std.specs.Prelude.{ℕ, ◌≡◌, ◌+◌, ◌*◌, ◌/◌, ◌%◌, ◌^◌, ◌<◌, ◌≤◌, ◌==◌, ◌&&◌, nat_le, nat_lt, Bool, List, slice_index, if◌then◌else◌, Result, Ok, Err}
+use Rattle.gv_types.specs.Bits.{has_lowest_bit}
 use Rattle.gv_ctx.specs.declared.image.Image.{Image}
 use Rattle.gv_ctx.specs.declared.image.BadContext.{BadContext}
 
@@ -22,7 +23,7 @@ image_of page = record {
 -- the ring's size, and the head is below it.
 abbrev pub is_good : Image → ℕ → Bool
 is_good image control =
-    control % 2 == 1
+    has_lowest_bit control
     && nat_le image.pages 16
     && image.start % 4096 == 0
     && image.tail % 8 == 0

@@ -1,5 +1,6 @@
 -- A place in a context's commands, as the seven dwords of a shadow image.
-use Rattle.std.specs.Prelude.{ℕ, ◌+◌, ◌*◌, ◌/◌, ◌%◌, ◌^◌, ◌==◌, List, [], ◌∷◌, slice_index, if◌then◌else◌, Option, None, Some}
+use Rattle.std.specs.Prelude.{ℕ, ◌+◌, ◌*◌, ◌/◌, ◌%◌, ◌^◌, List, [], ◌∷◌, slice_index, if◌then◌else◌, Option, None, Some}
+use Rattle.gv_types.specs.Bits.{has_bit, has_lowest_bit}
 use Rattle.gv_ctx.specs.declared.saved.Batch.{Batch}
 use Rattle.gv_ctx.specs.declared.saved.Saved.{Saved}
 
@@ -25,7 +26,7 @@ fields_of place =
 -- Bit 0 of a state says that there is a batch, and bit 1 that it is live.
 abbrev pub batch_of : ℕ → ℕ → ℕ → Option Batch
 batch_of high low state =
-    if state % 2 == 1 then Some record { at = high * 2 ^ 32 + low; live = state / 2 % 2 == 1 } else None
+    if has_lowest_bit state then Some record { at = high * 2 ^ 32 + low; live = has_bit state 1 } else None
 
 abbrev pub saved_of : List ℕ → Saved
 saved_of fields = record {

@@ -1,6 +1,7 @@
 -- What an access of an engine goes through: the tables of its walk, where it has them and they are live,
 -- and the entry at last.
 use Rattle.std.specs.Prelude.{ℕ, ◌/◌, ◌%◌, ◌==◌, ◌||◌, Bool, true, false, Option, None, Some, if◌then◌else◌}
+use Rattle.gv_types.specs.Bits.{has_bit}
 use Rattle.gv_gpu.specs.Device.{Device}
 use Rattle.gv_gpu.specs.Physical.{live_page, third_table, second_table, first_table, leaf, physical_entry, page_of, page_strays, is_page}
 use Rattle.gv_engine.specs.declared.walk.Walk.{Walk}
@@ -12,7 +13,7 @@ walk_of d root false at = record { root = live_page d root; third = third_table 
 
 -- the page that is written through an entry
 abbrev pub writable_page : Device → ℕ → Option ℕ
-writable_page d entry = if entry / 2 % 2 == 1 then page_of d entry else None
+writable_page d entry = if has_bit entry 1 then page_of d entry else None
 
 -- whether a table of the walk is another guest's
 abbrev pub tables_stray : Device → ℕ → Walk → Bool

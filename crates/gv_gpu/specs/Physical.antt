@@ -2,7 +2,7 @@
 -- four levels of a root's physical tables; and which accesses stray.
 use Rattle.std.specs.Prelude.{ℕ, ◌+◌, ◌*◌, ◌/◌, ◌%◌, ◌^◌, ◌==◌, ◌&&◌, ◌||◌, not, nat_lt, Bool, true, false, ◌∷◌, [], slice_index, slice_set, if◌then◌else◌, Option, None, Some, is_some}
 use Rattle.std.specs.Int.{to_le_bytes, from_le_bytes, w32, w64}
-use Rattle.gv_types.specs.Bits.{byte_of, with_byte}
+use Rattle.gv_types.specs.Bits.{byte_of, has_bit, has_lowest_bit, with_byte}
 use Rattle.gv_types.specs.declared.ids.Label.{Label}
 use Rattle.gv_types.specs.Memory.{half_of, with_half}
 use Rattle.gv_ctx.specs.Descriptor.{descriptor_of}
@@ -16,7 +16,7 @@ live_page d page = if is_some (d.label page) then Some page else None
 
 -- The page that an entry names: bit 0 is set, and bits 63..12 are the number of a live page.
 abbrev pub page_of : Device → ℕ → Option ℕ
-page_of d entry = if entry % 2 == 1 then live_page d (entry / 4096) else None
+page_of d entry = if has_lowest_bit entry then live_page d (entry / 4096) else None
 
 -- an entry of a table; where there is no table, an absent entry
 abbrev pub entry_in : Device → Option ℕ → ℕ → ℕ
@@ -47,7 +47,7 @@ unfoldable pub read_page : Device → ℕ → Bool → ℕ → Option ℕ
 read_page d root global at = page_of d (physical_entry d root global at)
 
 unfoldable pub write_page : Device → ℕ → Bool → ℕ → Option ℕ
-write_page d root global at = if physical_entry d root global at / 2 % 2 == 1 then page_of d (physical_entry d root global at) else None
+write_page d root global at = if has_bit (physical_entry d root global at) 1 then page_of d (physical_entry d root global at) else None
 
 -- ---- reading and writing
 

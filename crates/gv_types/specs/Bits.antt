@@ -5,6 +5,10 @@ use Rattle.std.specs.Int.{bit_at, to_le_bytes, from_le_bytes, w64}
 abbrev pub has_bit : ℕ → ℕ → Bool
 has_bit dword bit = bit_at dword bit == 1
 
+-- that of bit 0
+abbrev pub has_lowest_bit : ℕ → Bool
+has_lowest_bit dword = dword % 2 == 1
+
 -- a byte of a word, least first
 abbrev pub byte_of : ℕ → ℕ → ℕ
 byte_of word at = slice_index (to_le_bytes w64 word) (at % 8)

@@ -1,11 +1,12 @@
 ghost use Rattle.std.specs.Prelude.{◌≡◌, ◌<◌};
-ghost use Rattle.gv_types.specs.Bits.{has_bit};
+ghost use Rattle.gv_types.specs.Bits.{has_bit, has_lowest_bit};
 ghost use Rattle.gv_types.specs.Memory.{half_of, with_half};
 
 /// Whether the dword has the bit.
 pub fn has_bit(dword: u32, bit: u8) -> bool
     requires { bit < 32 }
-    ensures { result ≡ has_bit dword bit }
+    ensures value { result ≡ has_bit dword bit }
+    ensures lowest { has_bit dword 0 ≡ has_lowest_bit dword }
 {
     (dword >> bit) & 1 == 1
 }
