@@ -50,7 +50,7 @@ impl SoftGpu {
 
     /// Reads the front command: its header alone, and where a row of the command table has such a
     /// header all dwords of its length.
-    #[tactic(auto, unfolding(gv_gpu::specs::Step::fetched))]
+    #[tactic(auto, unfolding(gv_gpu::specs::Step::head_read))]
     fn fetch(&self, context: &Context) -> Fetched
         ensures few { result.count ≤ 65 }
         ensures words { take result.count result.words ≡ (head_read (whole self.now) (loaded_of context.now)).words }
