@@ -1,8 +1,8 @@
 -- Each dword that a listed command loads or stores is at a multiple of 4.
-use Rattle.std.proofs.Common.{◌≡◌, ℕ, ◌+◌, ◌*◌, ◌/◌, ◌%◌, ◌^◌, ◌&&◌, not, Bool, true, false, List, [], get_or, Option, None, Some, cond, eqb, arith}
+use Rattle.std.proofs.Common.{◌≡◌, ℕ, ◌+◌, ◌*◌, ◌/◌, ◌%◌, ◌^◌, ◌&&◌, not, Bool, true, false, List, [], ◌∷◌, get_or, Option, None, Some, cond, eqb, arith}
 use Rattle.std.specs.Prelude.{IfSome}
 use Rattle.gv_cmd.specs.Bits.{bits, dword_address, quadword_address}
-use Rattle.gv_cmd.specs.Table.{pipe_fields, pipe_control, colour_fields, copy_fields, colour_blit, copy_blit, interface_kind, blit_kind, kind_of}
+use Rattle.gv_cmd.specs.Table.{Row, has_header, pipe_fields, colour_fields, copy_fields, table, kind_in, kind_of}
 use Rattle.gv_cmd.specs.Simulation.{Access, IsAligned, AccessesAreAligned, dwords_at, post_accesses, accesses, EachAccess, MayDo}
 use Rattle.gv_cmd.specs.Effect.{is_skipped}
 use Rattle.gv_cmd.specs.declared.kind.PostWrite.{PostWrite}
@@ -40,31 +40,35 @@ where_fits : (b : Bool) (kind : Kind) → AreAligned kind → IfSome (cond b (So
 where_fits true kind h = h
 where_fits false kind h = tt
 
-interface_aligned : (o : ℕ) (ws : List ℕ) → IfSome (interface_kind o ws) AreAligned
-interface_aligned o ws =
-    by_if (eqb o 0x00) _ _ tt (by_if (eqb o 0x02) _ _ tt (by_if (eqb o 0x05) _ _ tt (by_if (eqb o 0x08) _ _ tt (by_if (eqb o 0x0A) _ _ tt (
-    by_if (eqb o 0x1C) _ _ (dword_aligned ws 2, tt) (
-    by_if (eqb o 0x20) _ _ (two _ _ _ (dword_aligned ws 1)) (
-    by_if (eqb o 0x22) _ _ tt (
-    by_if (eqb o 0x24) _ _ (dword_aligned ws 2, tt) (
-    by_if (eqb o 0x26) _ _ (post _ _ (quadword_aligned ws 1)) (
-    by_if (eqb o 0x29) _ _ (dword_aligned ws 2, tt) (
-    by_if (eqb o 0x2A) _ _ tt (
-    by_if (eqb o 0x2E) _ _ (dword_aligned ws 3, (dword_aligned ws 1, tt)) (
-    by_if (eqb o 0x31) _ _ tt tt)))))))))))))
+-- Each row's fields are such: so are those of the first one that a header names.
+abbrev RowsAligned : List ℕ → List Row → Type 0
+RowsAligned ws [] = Unit {0}
+RowsAligned ws (row ∷ rows) = IfSome (row.fields ws) AreAligned × RowsAligned ws rows
 
-blit_aligned : (o : ℕ) (ws : List ℕ) → IfSome (blit_kind o ws) AreAligned
-blit_aligned o ws =
-    by_if (eqb o 0x50) (colour_blit ws) _ (where_fits _ (ColourBlit (colour_fields ws)) tt) (
-    by_if (eqb o 0x53) (copy_blit ws) None (where_fits _ (CopyBlit (copy_fields ws)) tt) tt)
+first_aligned : (h : ℕ) (ws : List ℕ) (rows : List Row) → RowsAligned ws rows → IfSome (kind_in rows h ws) AreAligned
+first_aligned h ws [] all = tt
+first_aligned h ws (row ∷ rows) all = by_if (has_header row h) (row.fields ws) _ all.0 (first_aligned h ws rows all.1)
+
+table_aligned : (ws : List ℕ) → RowsAligned ws table
+table_aligned ws =
+    (where_fits _ (pipe_fields ws) (post _ _ (quadword_aligned ws 2)),
+    (tt, (tt, (tt, (tt, (tt,
+    ((dword_aligned ws 2, tt),
+    (two _ _ _ (dword_aligned ws 1),
+    (tt,
+    ((dword_aligned ws 2, tt),
+    (post _ _ (quadword_aligned ws 1),
+    ((dword_aligned ws 2, tt),
+    (tt,
+    ((dword_aligned ws 3, (dword_aligned ws 1, tt)),
+    (tt,
+    (where_fits _ (ColourBlit (colour_fields ws)) tt,
+    (where_fits _ (CopyBlit (copy_fields ws)) tt,
+    tt)))))))))))))))))
 
 pub accesses-aligned : (ws : List ℕ) → IfSome (kind_of ws) (λ kind. EachAccess IsAligned (accesses kind))
 unfolding kind_of
-accesses-aligned ws =
-    let h = get_or ws 0 0 in
-    by_if (eqb h 0x7A000004) (pipe_control ws) _ (where_fits _ (pipe_fields ws) (post _ _ (quadword_aligned ws 2))) (
-    by_if (eqb (bits h 31 29) 0) _ _ (interface_aligned (bits h 28 23) ws) (
-    by_if (eqb (bits h 31 29) 2) _ _ (blit_aligned (bits h 28 22) ws) tt))
+accesses-aligned ws = first_aligned (get_or ws 0 0) ws table (table_aligned ws)
 
 unless_skipped : (b : Bool) (xs : List Access) → EachAccess IsAligned xs → EachAccess IsAligned (cond b [] xs)
 unless_skipped true xs h = tt

@@ -1,11 +1,11 @@
 -- A listed length is 1 to 65, so a command has at least its header.
-use Rattle.std.proofs.Common.{◌≡◌, ℕ, ◌+◌, ◌≤◌, ◌&&◌, ◌||◌, Bool, true, false, List, ◌++◌, length, get_or, Option, None, Some, Ok, cond, eqb, leb, refl, subst, arith, lit≤}
+use Rattle.std.proofs.Common.{◌≡◌, ℕ, ◌+◌, ◌≤◌, ◌&&◌, ◌||◌, Bool, true, false, List, [], ◌∷◌, ◌++◌, length, get_or, Option, None, Some, Ok, cond, eqb, leb, refl, subst, arith, lit≤}
 use Rattle.std.specs.Prelude.{IfSome}
 use Rattle.std.proofs.lemmas.Bool.Decides.{nat_tests}
 use Rattle.gv_types.specs.Bits.{has_bit}
 use Rattle.gv_cmd.specs.Bits.{bits}
 use Rattle.gv_cmd.specs.Kind.{IsLength}
-use Rattle.gv_cmd.specs.Table.{exactly, semaphore_length, store_length, load_registers_length, flush_length, interface_length, blit_length, length_of}
+use Rattle.gv_cmd.specs.Table.{Row, has_header, exactly, always, store_length, load_registers_length, flush_length, untiled, pipe_row, interface_rows, blit_rows, table, length_in, length_of}
 use Rattle.gv_cmd.specs.Command.{IsCommand, decoded}
 use Rattle.gv_cmd.proofs.Keeping.{decoded-append}
 
@@ -24,6 +24,12 @@ registers_by : (b c : Bool) (n : ℕ) → (b && leb (n + 2) 65) ≡ c → IfSome
 registers_by b true n h = counted b n h
 registers_by b false n h = tt
 
+six : (field : ℕ) → IfSome (exactly 6 field) IsLength
+six field = exact 6 field (lit≤ tt) (lit≤ tt)
+
+always-form : (n h : ℕ) → 1 ≤ n → n ≤ 65 → IfSome (always n h) IsLength
+always-form n h some few = exact n (bits h 7 0) some few
+
 four : (field : ℕ) → IfSome (exactly 4 field) IsLength
 four field = exact 4 field (lit≤ tt) (lit≤ tt)
 
@@ -36,30 +42,41 @@ three field = exact 3 field (lit≤ tt) (lit≤ tt)
 flush_form : (h : ℕ) → IfSome (flush_length h) IsLength
 flush_form h = by_if _ _ None (by_if (eqb (bits h 5 0) 3) (Some 5) _ (lit≤ tt, lit≤ tt) (four (bits h 5 0))) tt
 
-interface_form : (o h : ℕ) → IfSome (interface_length o h) IsLength
-interface_form o h =
-    by_if (eqb o 0x00 || eqb o 0x02 || eqb o 0x05 || eqb o 0x08 || eqb o 0x0A) (Some 1) _ (lit≤ tt, lit≤ tt) (
-    by_if (eqb o 0x1C) (semaphore_length h) _ (by_if _ _ None (four (bits h 7 0)) tt) (
-    by_if (eqb o 0x20) (store_length h) _ (by_if (has_bit h 21) _ _ (five (bits h 9 0)) (four (bits h 9 0))) (
-    by_if (eqb o 0x22) (load_registers_length h) _ (registers_by (has_bit h 0) _ (bits h 7 0) refl) (
-    by_if (eqb o 0x24) _ _ (four (bits h 7 0)) (
-    by_if (eqb o 0x26) (flush_length h) _ (flush_form h) (
-    by_if (eqb o 0x29) _ _ (four (bits h 7 0)) (
-    by_if (eqb o 0x2A) _ _ (three (bits h 7 0)) (
-    by_if (eqb o 0x2E) _ _ (five (bits h 7 0)) (
-    by_if (eqb o 0x31) _ None (three (bits h 7 0)) tt)))))))))
+untiled_form : (n h : ℕ) → 1 ≤ n → n ≤ 65 → IfSome (untiled n h) IsLength
+untiled_form n h some few = by_if (has_bit h 15 || has_bit h 11) None _ tt (exact n (bits h 7 0) some few)
 
-blit_form : (o h : ℕ) → IfSome (blit_length o h) IsLength
-blit_form o h =
-    by_if (has_bit h 15 || has_bit h 11) None _ tt (
-    by_if (eqb o 0x50) _ _ (exact 7 (bits h 7 0) (lit≤ tt) (lit≤ tt)) (
-    by_if (eqb o 0x53) _ None (exact 10 (bits h 7 0) (lit≤ tt) (lit≤ tt)) tt))
+-- Each row's lengths are such: so is that of the first one that a header names.
+abbrev AreLengths : ℕ → List Row → Type 0
+AreLengths h [] = Unit {0}
+AreLengths h (row ∷ rows) = IfSome (row.dwords h) IsLength × AreLengths h rows
+
+first_form : (h : ℕ) (rows : List Row) → AreLengths h rows → IfSome (length_in rows h) IsLength
+first_form h [] all = tt
+first_form h (row ∷ rows) all = by_if (has_header row h) (row.dwords h) _ all.0 (first_form h rows all.1)
+
+one : IsLength 1
+one = (lit≤ tt, lit≤ tt)
+
+blit_form : (h : ℕ) → AreLengths h blit_rows
+blit_form h = (untiled_form 7 h (lit≤ tt) (lit≤ tt), (untiled_form 10 h (lit≤ tt) (lit≤ tt), tt))
+
+table_form : (h : ℕ) → AreLengths h table
+table_form h =
+    (six (bits h 15 0),
+    (one, (one, (one, (one, (one,
+    (by_if _ _ None (four (bits h 7 0)) tt,
+    (by_if (has_bit h 21) _ _ (five (bits h 9 0)) (four (bits h 9 0)),
+    (registers_by (has_bit h 0) _ (bits h 7 0) refl,
+    (four (bits h 7 0),
+    (flush_form h,
+    (four (bits h 7 0),
+    (three (bits h 7 0),
+    (five (bits h 7 0),
+    (three (bits h 7 0),
+    blit_form h)))))))))))))))
 
 pub length_of-form : (h : ℕ) → IfSome (length_of h) IsLength
-length_of-form h =
-    by_if (eqb h 0x7A000004) (Some 6) _ (lit≤ tt, lit≤ tt) (
-    by_if (eqb (bits h 31 29) 0) _ _ (interface_form (bits h 28 23) h) (
-    by_if (eqb (bits h 31 29) 2) _ None (blit_form (bits h 28 22) h) tt))
+length_of-form h = first_form h table (table_form h)
 
 pub IsCommand-length : (ws : List ℕ) → IsCommand ws → IsLength (length ws)
 IsCommand-length ws command =

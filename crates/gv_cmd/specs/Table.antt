@@ -1,21 +1,36 @@
 -- The command table: which headers are listed, with how many dwords, and what the fields of each row
 -- are. A command is the list of its dwords, the header first.
-use Rattle.std.specs.Prelude.{ℕ, ◌+◌, ◌-◌, ◌/◌, ◌==◌, ◌&&◌, ◌||◌, not, nat_le, nat_lt, Bool, List, length, slice_index, if◌then◌else◌, Option, None, Some}
+use Rattle.std.specs.Prelude.{ℕ, ◌+◌, ◌-◌, ◌*◌, ◌/◌, ◌==◌, ◌&&◌, ◌||◌, not, nat_le, nat_lt, Bool, List, [], ◌∷◌, ◌++◌, length, slice_index, if◌then◌else◌, Option, None, Some}
 use Rattle.gv_types.specs.Bits.{has_bit}
 use Rattle.gv_cmd.specs.Bits.{bits, register, byte_address, dword_address, quadword_address}
 use Rattle.gv_cmd.specs.declared.blit.Blit.{Blit}
 use Rattle.gv_cmd.specs.declared.kind.Kind.{Kind}
 use Rattle.gv_cmd.specs.declared.kind.Kind.TheVariants.{Noop, UserInterrupt, ArbCheck, ArbOnOff, BatchEnd, SemaphoreWait, Store, LoadRegisters, StoreRegister, LoadRegister, MoveRegister, CopyMemory, Flush, PipeControl, BatchStart, ColourBlit, CopyBlit}
 
--- ---- the length that a header names, row by row: None where its row has no such header
+-- A row. The header names it by its bits from 31 down.
+pub record Row : Type 0 where
+  pub lowest : ℕ  -- the lowest of these bits
+  pub opcode : ℕ  -- what they are
+  pub dwords : ℕ → Option ℕ  -- how many dwords the header says, or that the row has no such header
+  pub fields : List ℕ → Option Kind  -- by so many dwords; none where a rule on another dword than the header isn't kept
 
--- a row of n dwords, where the length field has n minus 2
+-- ---- how many dwords a header says
+
+-- one dword, whatever the rest of the header is
+abbrev pub alone : ℕ → Option ℕ
+alone h = Some 1
+
+-- n dwords, where a length field has n minus 2
 abbrev pub exactly : ℕ → ℕ → Option ℕ
 exactly n field = if field + 2 == n then Some n else None
 
+-- where that field is bits 7..0
+abbrev pub always : ℕ → ℕ → Option ℕ
+always n h = exactly n (bits h 7 0)
+
 -- SEMAPHORE_WAIT: bit 15 must be set, and the comparison (bits 14..12) is 0 to 5
 abbrev pub semaphore_length : ℕ → Option ℕ
-semaphore_length h = if has_bit h 15 && nat_lt (bits h 14 12) 6 then exactly 4 (bits h 7 0) else None
+semaphore_length h = if has_bit h 15 && nat_lt (bits h 14 12) 6 then always 4 h else None
 
 -- STORE_DATA_IMM: 4 dwords, or 5 with bit 21
 abbrev pub store_length : ℕ → Option ℕ
@@ -32,44 +47,15 @@ flush_length h =
     then (if bits h 5 0 == 3 then Some 5 else exactly 4 (bits h 5 0))
     else None
 
--- memory-interface commands, by their opcode
-abbrev pub interface_length : ℕ → ℕ → Option ℕ
-interface_length opcode h =
-    if opcode == 0x00 || opcode == 0x02 || opcode == 0x05 || opcode == 0x08 || opcode == 0x0A then Some 1
-    else (if opcode == 0x1C then semaphore_length h
-    else (if opcode == 0x20 then store_length h
-    else (if opcode == 0x22 then load_registers_length h
-    else (if opcode == 0x24 then exactly 4 (bits h 7 0)
-    else (if opcode == 0x26 then flush_length h
-    else (if opcode == 0x29 then exactly 4 (bits h 7 0)
-    else (if opcode == 0x2A then exactly 3 (bits h 7 0)
-    else (if opcode == 0x2E then exactly 5 (bits h 7 0)
-    else (if opcode == 0x31 then exactly 3 (bits h 7 0)
-    else None)))))))))
+-- a blit: bits 15 and 11 mean tiling, and no row is tiled
+abbrev pub untiled : ℕ → ℕ → Option ℕ
+untiled n h = if has_bit h 15 || has_bit h 11 then None else always n h
 
--- Blits: bits 15 and 11 mean tiling, and no row is tiled.
-abbrev pub blit_length : ℕ → ℕ → Option ℕ
-blit_length opcode h =
-    if has_bit h 15 || has_bit h 11 then None
-    else (if opcode == 0x50 then exactly 7 (bits h 7 0)
-    else (if opcode == 0x53 then exactly 10 (bits h 7 0)
-    else None))
+-- PIPE_CONTROL has one header
+abbrev pub pipe_length : ℕ → Option ℕ
+pipe_length h = exactly 6 (bits h 15 0)
 
--- PIPE_CONTROL has one header. Bits 31..29 of the others are 0 for the memory interface, whose opcode
--- is bits 28..23, and 2 for blits, whose opcode is bits 28..22.
-abbrev pub length_of : ℕ → Option ℕ
-length_of h =
-    if h == 0x7A000004 then Some 6
-    else (if bits h 31 29 == 0 then interface_length (bits h 28 23) h
-    else (if bits h 31 29 == 2 then blit_length (bits h 28 22) h
-    else None))
-
--- how many dwords of a command are read: the header alone where no row has it
-abbrev pub read_length : Option ℕ → ℕ
-read_length None = 1
-read_length (Some n) = n
-
--- ---- the fields, row by row: None where a rule on another dword than the header isn't kept
+-- ---- the fields of a row
 
 abbrev pub semaphore : List ℕ → Kind
 semaphore ws = SemaphoreWait (has_bit (slice_index ws 0) 22) (bits (slice_index ws 0) 14 12) (slice_index ws 1) (dword_address ws 2)
@@ -81,11 +67,17 @@ store ws = Store (has_bit (slice_index ws 0) 22) (dword_address ws 1) (slice_ind
 abbrev pub pair_count : List ℕ → ℕ
 pair_count ws = (length ws - 1) / 2
 
+abbrev pub load_registers : List ℕ → Kind
+load_registers ws = LoadRegisters (pair_count ws)
+
 abbrev pub store_register : List ℕ → Kind
 store_register ws = StoreRegister (has_bit (slice_index ws 0) 22) (register ws 1) (dword_address ws 2)
 
 abbrev pub load_register : List ℕ → Kind
 load_register ws = LoadRegister (has_bit (slice_index ws 0) 22) (register ws 1) (dword_address ws 2)
+
+abbrev pub move_register : List ℕ → Kind
+move_register ws = MoveRegister (register ws 1) (register ws 2)
 
 -- bit 22: the source is global; bit 21: the destination is
 abbrev pub copy_memory : List ℕ → Kind
@@ -171,37 +163,74 @@ colour_blit ws = if is_plain 0xF0 ws && is_small (colour_fields ws) then Some (C
 abbrev pub copy_blit : List ℕ → Option Kind
 copy_blit ws = if is_plain 0xCC ws && is_small (copy_fields ws) then Some (CopyBlit (copy_fields ws)) else None
 
-abbrev pub interface_kind : ℕ → List ℕ → Option Kind
-interface_kind opcode ws =
-    if opcode == 0x00 then Some Noop
-    else (if opcode == 0x02 then Some UserInterrupt
-    else (if opcode == 0x05 then Some ArbCheck
-    else (if opcode == 0x08 then Some ArbOnOff
-    else (if opcode == 0x0A then Some BatchEnd
-    else (if opcode == 0x1C then Some (semaphore ws)
-    else (if opcode == 0x20 then Some (store ws)
-    else (if opcode == 0x22 then Some (LoadRegisters (pair_count ws))
-    else (if opcode == 0x24 then Some (store_register ws)
-    else (if opcode == 0x26 then Some (flush ws)
-    else (if opcode == 0x29 then Some (load_register ws)
-    else (if opcode == 0x2A then Some (MoveRegister (register ws 1) (register ws 2))
-    else (if opcode == 0x2E then Some (copy_memory ws)
-    else (if opcode == 0x31 then Some (batch_start ws)
-    else None)))))))))))))
+-- ---- the rows
 
-abbrev pub blit_kind : ℕ → List ℕ → Option Kind
-blit_kind opcode ws =
-    if opcode == 0x50 then colour_blit ws
-    else (if opcode == 0x53 then copy_blit ws
-    else None)
+-- Memory-interface commands have 0 in bits 31..29, and their opcode in bits 28..23. They have these fields.
+abbrev pub interface : ℕ → (ℕ → Option ℕ) → (List ℕ → Kind) → Row
+interface opcode dwords fields = record { lowest = 23; opcode = opcode; dwords = dwords; fields = λ ws. Some (fields ws) }
 
-abbrev pub kind_of_header : ℕ → List ℕ → Option Kind
-kind_of_header h ws =
-    if h == 0x7A000004 then pipe_control ws
-    else (if bits h 31 29 == 0 then interface_kind (bits h 28 23) ws
-    else (if bits h 31 29 == 2 then blit_kind (bits h 28 22) ws
-    else None))
+-- and these have none
+abbrev pub plain : ℕ → Kind → Row
+plain opcode kind = interface opcode alone (λ ws. kind)
+
+abbrev pub interface_rows : List Row
+interface_rows =
+    plain 0x00 Noop
+    ∷ plain 0x02 UserInterrupt
+    ∷ plain 0x05 ArbCheck
+    ∷ plain 0x08 ArbOnOff
+    ∷ plain 0x0A BatchEnd
+    ∷ interface 0x1C semaphore_length semaphore  -- SEMAPHORE_WAIT
+    ∷ interface 0x20 store_length store  -- STORE_DATA_IMM
+    ∷ interface 0x22 load_registers_length load_registers  -- LOAD_REGISTER_IMM
+    ∷ interface 0x24 (always 4) store_register  -- STORE_REGISTER_MEM
+    ∷ interface 0x26 flush_length flush  -- FLUSH_DW
+    ∷ interface 0x29 (always 4) load_register  -- LOAD_REGISTER_MEM
+    ∷ interface 0x2A (always 3) move_register  -- LOAD_REGISTER_REG
+    ∷ interface 0x2E (always 5) copy_memory  -- COPY_MEM_MEM
+    ∷ interface 0x31 (always 3) batch_start  -- BATCH_BUFFER_START
+    ∷ []
+
+-- Blits have 2 in bits 31..29, and their opcode in bits 28..22.
+abbrev pub blit : ℕ → ℕ → (List ℕ → Option Kind) → Row
+blit opcode n fields = record { lowest = 22; opcode = 2 * 0x80 + opcode; dwords = untiled n; fields = fields }
+
+abbrev pub blit_rows : List Row
+blit_rows =
+    blit 0x50 7 colour_blit  -- XY_COLOR_BLT
+    ∷ blit 0x53 10 copy_blit  -- XY_SRC_COPY_BLT
+    ∷ []
+
+-- PIPE_CONTROL is of the 3D pipeline: 3 in bits 31..29, then 3, 2 and 0
+abbrev pub pipe_row : Row
+pipe_row = record { lowest = 16; opcode = 0x7A00; dwords = pipe_length; fields = pipe_control }
+
+abbrev pub table : List Row
+table = pipe_row ∷ interface_rows ++ blit_rows
+
+-- ---- the whole table
+
+abbrev pub has_header : Row → ℕ → Bool
+has_header row h = bits h 31 row.lowest == row.opcode
+
+-- by the first row that the header names
+abbrev pub length_in : List Row → ℕ → Option ℕ
+length_in [] h = None
+length_in (row ∷ rows) h = if has_header row h then row.dwords h else length_in rows h
+
+abbrev pub kind_in : List Row → ℕ → List ℕ → Option Kind
+kind_in [] h ws = None
+kind_in (row ∷ rows) h ws = if has_header row h then row.fields ws else kind_in rows h ws
+
+-- the length that a header names: none where no row has it
+abbrev pub length_of : ℕ → Option ℕ
+length_of h = length_in table h
+
+-- how many dwords of a command are read: the header alone where no row has it
+abbrev pub read_length : Option ℕ → ℕ
+read_length None = 1
+read_length (Some n) = n
 
 -- the fields of a command of a listed length
 unfoldable pub kind_of : List ℕ → Option Kind
-kind_of ws = kind_of_header (slice_index ws 0) ws
+kind_of ws = kind_in table (slice_index ws 0) ws

@@ -1,15 +1,15 @@
 ghost use Rattle.std.specs.Prelude.{◌≡◌, ◌<◌, ◌≤◌, ◌^◌, IfSome, Option};
 ghost use Rattle.gv_types.specs.Bits.{has_bit};
 ghost use Rattle.gv_cmd.specs.Bits.{bits};
-ghost use Rattle.gv_cmd.specs.Table.{exactly, semaphore_length, store_length, load_registers_length, flush_length, interface_length, blit_length, length_of};
+ghost use Rattle.gv_cmd.specs.Table.{exactly, always, semaphore_length, store_length, load_registers_length, flush_length, pipe_length, untiled, blit_rows, length_in, length_of};
 ghost use Rattle.gv_cmd.specs.Kind.{IsLength};
 
 use crate::MAX_COMMAND_DWORDS;
 
-/// The header of PIPE_CONTROL, the one listed command of the 3D pipeline.
-pub(crate) const PIPE_CONTROL: u32 = 0x7a00_0004;
+/// Bits 31..16 of the header of PIPE_CONTROL, the one listed command of the 3D pipeline.
+pub(crate) const PIPE_CONTROL: u32 = 0x7a00;
 
-// Opcodes of memory-interface commands.
+// Bits 31..23 of the headers of memory-interface commands.
 pub(crate) const NOOP: u32 = 0x00;
 
 pub(crate) const USER_INTERRUPT: u32 = 0x02;
@@ -38,10 +38,10 @@ pub(crate) const COPY_MEM_MEM: u32 = 0x2e;
 
 pub(crate) const BATCH_BUFFER_START: u32 = 0x31;
 
-// Opcodes of blits.
-pub(crate) const XY_COLOR_BLT: u32 = 0x50;
+// Bits 31..22 of the headers of blits.
+pub(crate) const XY_COLOR_BLT: u32 = 0x150;
 
-pub(crate) const XY_SRC_COPY_BLT: u32 = 0x53;
+pub(crate) const XY_SRC_COPY_BLT: u32 = 0x153;
 
 pub(crate) fn bit(dword: u32, n: u8) -> bool
     requires { n < 32 }
@@ -50,23 +50,25 @@ pub(crate) fn bit(dword: u32, n: u8) -> bool
     (dword >> n) & 1 == 1
 }
 
-/// Bits 31..29 of a header: 0 for the memory interface, 2 for blits.
-pub(crate) fn client(header: u32) -> u32
-    ensures { result ≡ bits header 31 29 }
+/// What names PIPE_CONTROL.
+pub(crate) fn pipe_opcode(header: u32) -> u32
+    ensures { result ≡ bits header 31 16 }
 {
-    header >> 29
+    header >> 16
 }
 
+/// What names a memory-interface command.
 pub(crate) fn interface_opcode(header: u32) -> u32
-    ensures { result ≡ bits header 28 23 }
+    ensures { result ≡ bits header 31 23 }
 {
-    (header >> 23) & 0x3f
+    header >> 23
 }
 
+/// What names a blit.
 pub(crate) fn blit_opcode(header: u32) -> u32
-    ensures { result ≡ bits header 28 22 }
+    ensures { result ≡ bits header 31 22 }
 {
-    (header >> 22) & 0x7f
+    header >> 22
 }
 
 /// Bits 7..0 of a header, which for most rows are the length minus 2.
@@ -79,17 +81,24 @@ fn length_field(header: u32) -> u32
 
 /// A row of `dwords` dwords, where the length field has `dwords` minus 2.
 fn exactly(dwords: usize, field: u32) -> Option<usize>
-    requires { field < 2 ^ 10 }
+    requires { field < 2 ^ 16 }
     ensures { result ≡ exactly dwords field }
 {
     (field as usize + 2 == dwords).then_some(dwords)
+}
+
+/// A row whose length field is bits 7..0.
+fn always(dwords: usize, header: u32) -> Option<usize>
+    ensures { result ≡ always dwords header }
+{
+    exactly(dwords, length_field(header))
 }
 
 fn semaphore_length(header: u32) -> Option<usize>
     ensures { result ≡ semaphore_length header }
 {
     if bit(header, 15) && (header >> 12) & 7 < 6 {
-        exactly(4, length_field(header))
+        always(4, header)
     } else {
         None
     }
@@ -121,33 +130,28 @@ fn flush_length(header: u32) -> Option<usize>
     }
 }
 
-fn interface_length(opcode: u32, header: u32) -> Option<usize>
-    ensures { result ≡ interface_length opcode header }
-{
-    match opcode {
-        NOOP | USER_INTERRUPT | ARB_CHECK | ARB_ON_OFF | BATCH_BUFFER_END => Some(1),
-        SEMAPHORE_WAIT => semaphore_length(header),
-        STORE_DATA_IMM => store_length(header),
-        LOAD_REGISTER_IMM => load_registers_length(header),
-        STORE_REGISTER_MEM => exactly(4, length_field(header)),
-        FLUSH_DW => flush_length(header),
-        LOAD_REGISTER_MEM => exactly(4, length_field(header)),
-        LOAD_REGISTER_REG => exactly(3, length_field(header)),
-        COPY_MEM_MEM => exactly(5, length_field(header)),
-        BATCH_BUFFER_START => exactly(3, length_field(header)),
-        _ => None,
-    }
-}
-
-fn blit_length(opcode: u32, header: u32) -> Option<usize>
-    ensures { result ≡ blit_length opcode header }
+/// A blit of so many dwords. Bits 15 and 11 mean tiling, and no row is tiled.
+fn untiled(dwords: usize, header: u32) -> Option<usize>
+    ensures { result ≡ untiled dwords header }
 {
     if bit(header, 15) || bit(header, 11) {
         return None;
     }
-    match opcode {
-        XY_COLOR_BLT => exactly(7, length_field(header)),
-        XY_SRC_COPY_BLT => exactly(10, length_field(header)),
+    always(dwords, header)
+}
+
+fn pipe_length(header: u32) -> Option<usize>
+    ensures { result ≡ pipe_length header }
+{
+    exactly(6, header & 0xffff)
+}
+
+fn blit_length(header: u32) -> Option<usize>
+    ensures { result ≡ length_in blit_rows header }
+{
+    match blit_opcode(header) {
+        XY_COLOR_BLT => untiled(7, header),
+        XY_SRC_COPY_BLT => untiled(10, header),
         _ => None,
     }
 }
@@ -158,12 +162,20 @@ pub fn length(header: u32) -> Option<usize>
     ensures value { result ≡ length_of header }
     ensures form { IfSome result IsLength }
 {
-    if header == PIPE_CONTROL {
-        return Some(6);
+    if pipe_opcode(header) == PIPE_CONTROL {
+        return pipe_length(header);
     }
-    match client(header) {
-        0 => interface_length(interface_opcode(header), header),
-        2 => blit_length(blit_opcode(header), header),
-        _ => None,
+    match interface_opcode(header) {
+        NOOP | USER_INTERRUPT | ARB_CHECK | ARB_ON_OFF | BATCH_BUFFER_END => Some(1),
+        SEMAPHORE_WAIT => semaphore_length(header),
+        STORE_DATA_IMM => store_length(header),
+        LOAD_REGISTER_IMM => load_registers_length(header),
+        STORE_REGISTER_MEM => always(4, header),
+        FLUSH_DW => flush_length(header),
+        LOAD_REGISTER_MEM => always(4, header),
+        LOAD_REGISTER_REG => always(3, header),
+        COPY_MEM_MEM => always(5, header),
+        BATCH_BUFFER_START => always(3, header),
+        _ => blit_length(header),
     }
 }

@@ -1,14 +1,14 @@
 ghost use Rattle.std.specs.Prelude.{◌≡◌, ◌+◌, ◌*◌, ◌%◌, ◌<◌, ◌≤◌, ◌^◌, IfSome, length, slice_index, Some};
 ghost use Rattle.gv_types.specs.Bits.{has_bit};
 ghost use Rattle.gv_cmd.specs.Bits.{bits, register, high_part, byte_address, dword_address, quadword_address};
-ghost use Rattle.gv_cmd.specs.Table.{semaphore, store, pair_count, store_register, load_register, copy_memory, flush, pipe_control, batch_start, pixel_bytes, is_plain, is_small, colour_fields, copy_fields, colour_blit, copy_blit, interface_kind, blit_kind, kind_of_header, kind_of};
+ghost use Rattle.gv_cmd.specs.Table.{semaphore, store, pair_count, store_register, load_register, copy_memory, flush, pipe_control, batch_start, pixel_bytes, is_plain, is_small, load_registers, move_register, colour_fields, copy_fields, colour_blit, copy_blit, table, blit_rows, kind_in, kind_of};
 ghost use Rattle.gv_cmd.specs.Kind.{IsKindOf, IsBlit, IsDwordAddress, IsRegister};
 
 use crate::header::{
     ARB_CHECK, ARB_ON_OFF, BATCH_BUFFER_END, BATCH_BUFFER_START, COPY_MEM_MEM, FLUSH_DW,
     LOAD_REGISTER_IMM, LOAD_REGISTER_MEM, LOAD_REGISTER_REG, NOOP, PIPE_CONTROL, SEMAPHORE_WAIT,
     STORE_DATA_IMM, STORE_REGISTER_MEM, USER_INTERRUPT, XY_COLOR_BLT, XY_SRC_COPY_BLT, bit,
-    blit_opcode, client, interface_opcode,
+    blit_opcode, interface_opcode, pipe_opcode,
 };
 use crate::{Blit, Kind, PostWrite};
 
@@ -103,7 +103,7 @@ fn store(words: &[u32]) -> Kind
 
 fn load_registers(words: &[u32]) -> Kind
     requires { length words.now ≤ 65 }
-    ensures value { result ≡ Kind.LoadRegisters (pair_count words.now) }
+    ensures value { result ≡ load_registers words.now }
     ensures form { IsKindOf words.now result }
 {
     Kind::LoadRegisters {
@@ -134,7 +134,7 @@ fn load_register(words: &[u32]) -> Kind
 }
 
 fn move_register(words: &[u32]) -> Kind
-    ensures value { result ≡ Kind.MoveRegister (register words.now 1) (register words.now 2) }
+    ensures value { result ≡ move_register words.now }
     ensures form { IsKindOf words.now result }
 {
     Kind::MoveRegister {
@@ -312,12 +312,26 @@ fn copy_blit(words: &[u32]) -> Option<Kind>
     }
 }
 
-fn interface_kind(opcode: u32, words: &[u32]) -> Option<Kind>
-    requires { length words.now ≤ 65 }
-    ensures value { result ≡ interface_kind opcode words.now }
+fn blit_kind(header: u32, words: &[u32]) -> Option<Kind>
+    ensures value { result ≡ kind_in blit_rows header words.now }
     ensures form { IfSome result (IsKindOf words.now) }
 {
-    match opcode {
+    match blit_opcode(header) {
+        XY_COLOR_BLT => colour_blit(words),
+        XY_SRC_COPY_BLT => copy_blit(words),
+        _ => None,
+    }
+}
+
+fn kind_by(header: u32, words: &[u32]) -> Option<Kind>
+    requires { length words.now ≤ 65 }
+    ensures value { result ≡ kind_in table header words.now }
+    ensures form { IfSome result (IsKindOf words.now) }
+{
+    if pipe_opcode(header) == PIPE_CONTROL {
+        return pipe_control(words);
+    }
+    match interface_opcode(header) {
         NOOP => Some(Kind::Noop),
         USER_INTERRUPT => Some(Kind::UserInterrupt),
         ARB_CHECK => Some(Kind::ArbCheck),
@@ -332,33 +346,7 @@ fn interface_kind(opcode: u32, words: &[u32]) -> Option<Kind>
         LOAD_REGISTER_REG => Some(move_register(words)),
         COPY_MEM_MEM => Some(copy_memory(words)),
         BATCH_BUFFER_START => Some(batch_start(words)),
-        _ => None,
-    }
-}
-
-fn blit_kind(opcode: u32, words: &[u32]) -> Option<Kind>
-    ensures value { result ≡ blit_kind opcode words.now }
-    ensures form { IfSome result (IsKindOf words.now) }
-{
-    match opcode {
-        XY_COLOR_BLT => colour_blit(words),
-        XY_SRC_COPY_BLT => copy_blit(words),
-        _ => None,
-    }
-}
-
-fn kind_of_header(header: u32, words: &[u32]) -> Option<Kind>
-    requires { length words.now ≤ 65 }
-    ensures value { result ≡ kind_of_header header words.now }
-    ensures form { IfSome result (IsKindOf words.now) }
-{
-    if header == PIPE_CONTROL {
-        return pipe_control(words);
-    }
-    match client(header) {
-        0 => interface_kind(interface_opcode(header), words),
-        2 => blit_kind(blit_opcode(header), words),
-        _ => None,
+        _ => blit_kind(header, words),
     }
 }
 
@@ -370,5 +358,5 @@ pub(crate) fn kind_of(words: &[u32]) -> Option<Kind>
     ensures value { result ≡ kind_of words.now }
     ensures form { IfSome result (IsKindOf words.now) }
 {
-    kind_of_header(dword(words, 0), words)
+    kind_by(dword(words, 0), words)
 }

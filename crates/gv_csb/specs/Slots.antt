@@ -1,5 +1,5 @@
 -- Submission to one engine, and its context status buffer.
-use Rattle.std.specs.Prelude.{ℕ, ◌+◌, ◌-◌, ◌*◌, ◌/◌, ◌%◌, ◌^◌, ◌<◌, ◌≤◌, ◌≡◌, ◌≢◌, Bool, true, false, not, ◌==◌, ◌&&◌, ◌||◌, if◌then◌else◌, List, [], ◌∷◌, length, replicate, slice_set, bit_and, bit_or, Option, Some, None}
+use Rattle.std.specs.Prelude.{ℕ, ◌+◌, ◌-◌, ◌*◌, ◌/◌, ◌%◌, ◌^◌, ◌<◌, ◌≤◌, ◌≡◌, ◌≢◌, Bool, true, false, not, ◌==◌, ◌&&◌, ◌||◌, if◌then◌else◌, List, [], ◌∷◌, length, take, replicate, slice_set, bit_and, bit_or, Option, Some, None}
 use Rattle.std.specs.List.{AllByRecursion}
 use Rattle.gv_types.specs.Bits.{has_lowest_bit}
 use Rattle.gv_csb.specs.declared.status.Status.{Status}
@@ -99,6 +99,23 @@ pointer_masked old value mask = bit_or (bit_and old (7 - mask)) (bit_and value m
 -- A write changes those bits of the read pointer whose bit 16 places higher is set.
 abbrev pub pointer_written : Execlists → ℕ → Execlists
 pointer_written s value = record s { read = pointer_masked s.read (value / 2 ^ 8 % 8) (value / 2 ^ 24 % 8) }
+
+-- ---- lists with their numbers
+
+-- The elements of a list, filled up with 0 to two, and how many there are.
+abbrev pub counted_list : List ℕ → List ℕ × ℕ
+counted_list [] = (0 ∷ 0 ∷ [], 0)
+counted_list (element ∷ []) = (element ∷ 0 ∷ [], 1)
+counted_list (element ∷ next ∷ elements) = (element ∷ next ∷ [], 2)
+
+-- the running list, or the pending one
+abbrev pub list_in : Execlists → Bool → List ℕ
+list_in s pending = if pending then s.pending else s.running
+
+-- A list that is given by descriptors and a number, which is 2 at the most: so many of them, each valid.
+pub record IsCountedList (given : List ℕ × ℕ) : Type 0 where
+  pub few : given.1 ≤ 2
+  pub valid : AllByRecursion (λ d. is_valid d ≡ true) (take given.1 given.0)
 
 -- ---- what always holds
 

@@ -1,5 +1,6 @@
-ghost use Rattle.std.specs.Prelude.{◌≡◌, ◌<◌, ◌↔◌, length, IsTrue, Some, slice_get};
-ghost use Rattle.gv_csb.specs.Slots.{is_valid, reset_execlists, submitted, submission_answer, current_of, completed, completion_events, next_index, pushed, pointer_of, pointer_written, IsWellFormed};
+ghost use Rattle.std.specs.Prelude.{◌≡◌, ◌≢◌, ◌<◌, ◌≤◌, ◌↔◌, length, take, IsTrue, Some, slice_get};
+ghost use Rattle.gv_csb.specs.Elements.{elements_of};
+ghost use Rattle.gv_csb.specs.Slots.{IsCountedList, counted_list, list_in, is_valid, reset_execlists, submitted, submission_answer, current_of, completed, completion_events, next_index, pushed, pointer_of, pointer_written, IsWellFormed};
 ghost use Rattle.gv_csb.specs.Status.{in_order};
 
 use crate::{Events, Status};
@@ -56,6 +57,19 @@ impl Execlist {
     }
 }
 
+// The list of the first so many descriptors, if there are any.
+fn counted(list: ([u64; 2], u8)) -> Option<Execlist>
+    requires { list.1 ≤ 2 }
+    ensures { elements_of result ≡ take list.1 list.0 }
+{
+    let ([element, next], count) = list;
+    match count {
+        0 => None,
+        1 => Some(Execlist { element, next: None }),
+        _ => Some(Execlist { element, next: Some(next) }),
+    }
+}
+
 fn is_valid(descriptor: u64) -> bool
     ensures { result ≡ is_valid descriptor }
 {
@@ -73,6 +87,44 @@ impl Slots {
             pairs: [(0, 0); 6],
             write: 7,
             read: 0,
+        }
+    }
+
+    /// Slots with these status pairs, write and read pointer, and lists, each as descriptors of which the first so many
+    /// count. The write pointer is 0 to 5, or 7 where no event came yet, and a list is pending only behind a running one.
+    pub fn of(
+        pairs: [(u32, u32); 6],
+        write: u8,
+        read: u8,
+        running: ([u64; 2], u8),
+        pending: ([u64; 2], u8),
+    ) -> Slots
+        requires write { (write ≤ 7) × (write ≢ 6) }
+        requires read { read < 8 }
+        requires running { IsCountedList running }
+        requires pending { IsCountedList pending }
+        requires behind { running.1 ≡ 0 → pending.1 ≡ 0 }
+        ensures { result ≡ record { running = take running.1 running.0; pending = take pending.1 pending.0; pairs = pairs; write = write; read = read } }
+    {
+        Slots {
+            running: counted(running),
+            pending: counted(pending),
+            pairs,
+            write,
+            read,
+        }
+    }
+
+    /// The descriptors of the running or of the pending list that aren't completed, in order and filled up with 0, and
+    /// how many they are: none where there is no such list.
+    pub fn list(&self, pending: bool) -> ([u64; 2], u8)
+        ensures list { result ≡ counted_list (list_in self.now pending) }
+        ensures well_formed { IsWellFormed self.now }
+    {
+        match if pending { self.pending } else { self.running } {
+            None => ([0, 0], 0),
+            Some(Execlist { element, next: None }) => ([element, 0], 1),
+            Some(Execlist { element, next: Some(next) }) => ([element, next], 2),
         }
     }
 

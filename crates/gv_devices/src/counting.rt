@@ -1,12 +1,14 @@
 ghost use Rattle.gv_gpu.specs.Device.{IsEmpty};
 
+use gv_ctx::Saved;
 use gv_engine::SoftGpu;
 use gv_gpu::{Gpu, GpuFailed, Step};
-use gv_types::{EngineId, GuestId, Label, OutOfMemory};
+use gv_types::{EngineId, GuestId, Label, OutOfMemory, PAGE_WORDS};
 use std::alloc::Global;
 use std::cell::Cell;
 
-/// A device in memory that counts the calls of `word`. It never fails: its count of faults is 0.
+/// A device in memory that counts the words that are read of its pages: a call of `word` counts one, and one of
+/// `words` 512. It never fails: its count of faults is 0.
 #[derive(Drop)]
 pub struct CountingGpu {
     inner: SoftGpu,
@@ -26,7 +28,7 @@ impl CountingGpu {
         }
     }
 
-    /// How many calls of `word` there were. It stays at 2^64 - 1 once it is there. No clause says so,
+    /// How many words were read, by calls of `word` and `words`. It stays at 2^64 - 1 once it is there. No clause says so,
     /// since none can say what a cell holds.
     pub fn reads(&self) -> u64 {
         self.reads.get()
@@ -51,6 +53,12 @@ impl Gpu for CountingGpu {
         self.inner.word(page, index)
     }
 
+    // Each of the 512 words counts.
+    fn words(&self, page: u64) -> &[u64] {
+        self.reads.set(self.reads.get().saturating_add(PAGE_WORDS as u64));
+        self.inner.words(page)
+    }
+
     fn poke(&mut self, page: u64, index: usize, value: u64) {
         self.inner.poke(page, index, value);
     }
@@ -65,6 +73,10 @@ impl Gpu for CountingGpu {
 
     fn set_general(&mut self, engine: EngineId, n: u8, value: u64) {
         self.inner.set_general(engine, n, value);
+    }
+
+    fn place(&self, engine: EngineId) -> Option<Saved> {
+        self.inner.place(engine)
     }
 
     fn submit(

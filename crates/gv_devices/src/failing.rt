@@ -5,6 +5,7 @@ ghost use Rattle.gv_gpu.specs.Step.{physical_step};
 ghost use Rattle.gv_engine.specs.Soft.{ran_of};
 ghost use Rattle.gv_devices.specs.Plan.{new_plan, FailsNext, after_call, FailsNextOther, after_other_call};
 
+use gv_ctx::Saved;
 use gv_engine::{Entry, SoftGpu};
 use gv_gpu::{Gpu, GpuFailed, Step};
 use gv_types::{EngineId, GuestId, Label, OutOfMemory};
@@ -136,6 +137,10 @@ impl Gpu for FailingGpu {
         self.inner.word(page, index)
     }
 
+    fn words(&self, page: u64) -> &[u64] {
+        self.inner.words(page)
+    }
+
     fn poke(&mut self, page: u64, index: usize, value: u64)
         requires live { IsSome ((whole self.old).label page) }
         requires within { index < 512 }
@@ -168,6 +173,10 @@ impl Gpu for FailingGpu {
         ensures plan { plan_of self.new ≡ plan_of self.old }
     {
         self.inner.set_general(engine, n, value);
+    }
+
+    fn place(&self, engine: EngineId) -> Option<Saved> {
+        self.inner.place(engine)
     }
 
     fn submit(&mut self, engine: EngineId, owner: GuestId, descriptor: u64) -> Result<(), GpuFailed>

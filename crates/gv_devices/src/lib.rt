@@ -4,9 +4,11 @@
 
 mod counting;
 mod failing;
+mod laws;
 
 pub use counting::CountingGpu;
 pub use failing::FailingGpu;
+pub use laws::counting_devices_never_fault;
 
 #[cfg(test)]
 mod tests;

@@ -36,7 +36,7 @@ goes-on d e guest engine root_page x works place left keeps loaded stands form s
     let P : ℕ → Type 0 = λ n. IsLeft n left in
     let runs : WorksAs e x.window root_page moved_on left = record {
       shows = same.shows;
-      context = record { descriptor = same.context.descriptor; owner = same.context.owner; start = same.context.start; root = same.context.root };
+      context = record { descriptor = same.context.descriptor; owner = same.context.owner; start = same.context.start; tail = same.context.tail; root = same.context.root };
       image = record { tail = same.image.tail; ring_start = same.image.ring_start; root = same.image.root };
       small = small;
       layout = works.runs.layout;

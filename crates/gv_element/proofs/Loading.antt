@@ -30,7 +30,7 @@ unfolding dwords_poked
 poked-is d page [] = refl
 poked-is d page (x ∷ more) = poked-is (dword_poked d page x.0 x.1) page more
 
-poked-others : (d : Device) (page : ℕ) (pairs : List (ℕ × ℕ)) (q : ℕ) → q ≢ page → (dwords_poked d page pairs).words q ≡ d.words q
+pub poked-others : (d : Device) (page : ℕ) (pairs : List (ℕ × ℕ)) (q : ℕ) → q ≢ page → (dwords_poked d page pairs).words q ≡ d.words q
 unfolding dwords_poked
 poked-others d page [] q differ = refl
 poked-others d page (x ∷ more) q differ = poked-others (dword_poked d page x.0 x.1) page more q differ ∙ put-other d.words page (with_dword (d.words page) x.0 x.1) q differ
@@ -158,7 +158,7 @@ module _ (d : Device) (guest engine : ℕ) (w : Window) (ring batches : List ℕ
     runs-filled : WorksAs filled w root_page front (begun items)
     runs-filled = record {
       shows = shows-filled;
-      context = record { descriptor = refl; owner = refl; start = refl; root = refl };
+      context = record { descriptor = refl; owner = refl; start = refl; tail = refl; root = refl };
       image = subst (HoldsContext filled) context-is own-holds;
       small = front-small;
       layout = placed_layout (batches_address w.guest w.engine) is.program.layout;

@@ -46,6 +46,7 @@ pub record IsContextOf (w : Window) (root_page : ℕ) (l : Loaded) : Type 0 wher
   pub descriptor : l.descriptor ≡ descriptor_at w.guest w.engine
   pub owner : l.owner ≡ w.guest
   pub start : l.ring_start ≡ ring_address w.guest w.engine
+  pub tail : l.tail ≡ w.tail
   pub root : l.root ≡ root_page
 
 -- The window shows its pages; its image holds the context, but for the place; and by its copies the context

@@ -20,9 +20,9 @@ use std::marker::Model;
 /// the load, and its window.
 #[derive(Drop)]
 pub struct Element {
-    root: u32,
-    tail: u32,
-    shadow: Shadow,
+    pub(crate) root: u32,
+    pub(crate) tail: u32,
+    pub(crate) shadow: Shadow,
 }
 
 impl Model for Element {

@@ -1,4 +1,5 @@
 pub mod Held
+pub mod Laws
 pub mod Pages
 pub mod Rows
 pub mod Running

@@ -4,6 +4,7 @@
 
 mod context;
 mod entry;
+mod laws;
 mod limits;
 mod memory;
 mod pages;
@@ -16,6 +17,7 @@ mod strays;
 mod walk;
 
 pub use entry::Entry;
+pub use laws::devices_in_memory_never_fault;
 pub use soft::SoftGpu;
 
 #[cfg(test)]

@@ -8,6 +8,7 @@ use crate::context::Context;
 use crate::limits::{MAX_ROW_BYTES, TABLE_ENTRIES};
 use crate::pages::Pages;
 use crate::place::has_ended;
+use gv_ctx::Saved;
 use gv_gpu::{Gpu, GpuFailed, Step};
 use gv_types::{EngineId, GuestId, Label, OutOfMemory};
 use std::alloc::Global;
@@ -189,6 +190,10 @@ impl Gpu for SoftGpu {
         self.pages.word(page, index)
     }
 
+    fn words(&self, page: u64) -> &[u64] {
+        self.pages.words(page)
+    }
+
     fn poke(&mut self, page: u64, index: usize, value: u64) {
         self.set_word(page, index, value);
         self.count_poke();
@@ -204,6 +209,13 @@ impl Gpu for SoftGpu {
 
     fn set_general(&mut self, engine: EngineId, n: u8, value: u64) {
         self.general[register(engine, n)] = value;
+    }
+
+    fn place(&self, engine: EngineId) -> Option<Saved> {
+        match self.context(engine.0) {
+            Some(context) => Some(context.place),
+            None => None,
+        }
     }
 
     fn submit(

@@ -106,7 +106,8 @@ by_kind (Some (BatchStart false second at)) starts ends goes = starts at
 by_kind (Some BatchEnd) starts ends goes = ends
 by_kind kind starts ends goes = goes
 
--- The items of a batch from an address on, up to its BATCH_BUFFER_END, by at most so many commands.
+-- The items of a batch from an address on, up to its BATCH_BUFFER_END, by at most so many commands. The count makes this a
+-- recursion, and changes nothing: by the law `BatchGoesOn` a whole batch is its first command and the whole batch behind it.
 unfoldable pub batch_items : ℕ → GlobalSpace → ℕ → Stands → ℕ → ℕ → Result Got Reason
 batch_items zero space engine stands at budget = Err Size
 batch_items (suc n) space engine stands at budget =
@@ -122,7 +123,8 @@ batch_items (suc n) space engine stands at budget =
 abbrev pub whole_batch : GlobalSpace → ℕ → Stands → ℕ → ℕ → Result Got Reason
 whole_batch space engine stands at budget = batch_items (suc budget) space engine stands at budget
 
--- The items of a ring's dwords, by at most so many commands.
+-- The items of a ring's dwords, by at most so many commands. This count changes nothing either: by the law `RingGoesOn` a whole
+-- ring is its first command and the whole ring behind it.
 unfoldable pub ring_items : ℕ → GlobalSpace → ℕ → List ℕ → ℕ → Result Got Reason
 ring_items n space engine [] budget = Ok record { items = none; budget = budget }
 ring_items zero space engine ring budget = Err Size

@@ -1,5 +1,5 @@
 -- What holds of every fetch and of everything that is left of an element.
-use Rattle.std.specs.Prelude.{ℕ, ◌+◌, ◌-◌, ◌*◌, ◌<◌, ◌≤◌, ◌≡◌, Bool, true, false, List, length, drop, Ok, Err}
+use Rattle.std.specs.Prelude.{ℕ, ◌+◌, ◌-◌, ◌*◌, ◌^◌, ◌<◌, ◌≤◌, ◌≡◌, Bool, true, false, List, length, drop, slice_index, Ok, Err}
 use Rattle.gv_types.specs.declared.reply.Reason.TheVariants.{Command}
 use Rattle.gv_ctx.specs.Image.{IsImage}
 use Rattle.gv_ctx.specs.declared.image.Image.{Image}
@@ -9,6 +9,7 @@ use Rattle.gv_cmd.specs.Table.{kind_of}
 use Rattle.gv_cmd.specs.declared.stands.Stands.{Stands}
 use Rattle.gv_cmd.specs.declared.stands.Stands.TheVariants.{Ring, Privileged}
 use Rattle.gv_fetch.specs.Fetch.{GlobalSpace, then, by_kind, batch_command, ring_command, batch_first, command_first, whole_batch, whole_ring, fetched, owns_operands}
+use Rattle.gv_fetch.specs.Flat.{Spells, IsBounded}
 use Rattle.gv_fetch.specs.Items.{Items, none, command, inside, depth, MayAllStand}
 use Rattle.gv_fetch.specs.Left.{Left, IsLeft, begun, is_done, is_privileged, front, moved, stands_of}
 use Rattle.gv_fetch.specs.Owned.{AllOwned, MayAccess}
@@ -63,3 +64,16 @@ FetchedMoves = (engine : ℕ) (read : ℕ → List ℕ) (n : ℕ) (w : Left) →
 
 abbrev pub LiveMoves : Type 0
 LiveMoves = (engine : ℕ) (ws : List ℕ) (n : ℕ) (w : Left) → IsLeft engine w → is_privileged w ≡ false → is_allowed ws (stands_of w) engine ≡ true → IsLeft engine (moved w ws n)
+
+-- ---- flat lists of dwords
+
+-- Items have one flat list of dwords, and none begins another.
+abbrev pub OneSpelling : Type 0
+OneSpelling = (stands : Stands) (engine : ℕ) (a b : Items) (words x y : List ℕ) → Spells stands engine a words x → Spells stands engine b words y → (a ≡ b) × (x ≡ y)
+
+-- What is fetched is within the bounds of a load, and so it stays with each command that runs, whose second dword has 32 bits.
+abbrev pub FetchedIsBounded : Type 0
+FetchedIsBounded = (space : GlobalSpace) (engine : ℕ) (image : Image) (items : Items) → IsImage image → fetched space engine image ≡ Ok items → IsBounded (begun items)
+
+abbrev pub MovesStayBounded : Type 0
+MovesStayBounded = (engine : ℕ) (w : Left) (ws : List ℕ) (n : ℕ) → is_allowed ws (stands_of w) engine ≡ true → slice_index ws 1 < 2 ^ 32 → IsBounded w → IsBounded (moved w ws n)

@@ -1,4 +1,4 @@
-ghost use Rattle.gv_fetch.specs.Laws.{FetchedMayStand, FetchedIsOwned, OwnedMayDo, FetchedIsShort, BatchGoesOn, RingGoesOn, BeginsWell, FetchedMoves, LiveMoves};
+ghost use Rattle.gv_fetch.specs.Laws.{FetchedMayStand, FetchedIsOwned, OwnedMayDo, FetchedIsShort, BatchGoesOn, RingGoesOn, BeginsWell, FetchedMoves, LiveMoves, OneSpelling, FetchedIsBounded, MovesStayBounded};
 
 /// Each item that is fetched is a command that may stand where it stands, and each batch ends with
 /// its one BATCH_BUFFER_END.
@@ -31,4 +31,16 @@ pub fn moves_keep_what_is_left()
     ensures begun { BeginsWell }
     ensures fetched { FetchedMoves }
     ensures live { LiveMoves }
+{}
+
+/// Items have one flat list of dwords, of which none begins another: a saved image has one spelling for what is left.
+pub fn items_have_one_spelling()
+    ensures { OneSpelling }
+{}
+
+/// What is left of an element is within the bounds of a load, its levels nest, and its live addresses have 48 bits, when it
+/// is fetched and after each command that may stand where it stands.
+pub fn what_is_left_is_bounded()
+    ensures begun { FetchedIsBounded }
+    ensures moved { MovesStayBounded }
 {}

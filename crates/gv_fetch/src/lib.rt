@@ -9,5 +9,6 @@ mod laws;
 
 pub use laws::{
     fetch_goes_by_commands, fetched_items_are_few, fetched_items_are_owned,
-    fetched_items_may_stand, moves_keep_what_is_left,
+    fetched_items_may_stand, items_have_one_spelling, moves_keep_what_is_left,
+    what_is_left_is_bounded,
 };

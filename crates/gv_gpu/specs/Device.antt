@@ -15,6 +15,11 @@ pub record Loaded : Type 0 where
   pub ring_start : ℕ
   pub root : ℕ
 
+-- the place of a loaded context, if there is one
+abbrev pub place_in : Option Loaded → Option Saved
+place_in None = None
+place_in (Some l) = Some l.place
+
 -- a command that ran: where, for whom, and its dwords, without the addresses of copied batches
 pub record JournalEntry : Type 0 where
   pub engine : ℕ

@@ -1,9 +1,10 @@
-ghost use Rattle.std.specs.Prelude.{◌≡◌, ℕ, ◌<◌, ◌≤◌, IfOk, OnOk, OnErr, IsOk, IsSome, [], None, slice_index};
-ghost use Rattle.gv_gpu.specs.Device.{Device, counted, added, released, poked, with_global, with_engine_general, with_spare, with_faults};
+ghost use Rattle.std.specs.Prelude.{◌≡◌, ℕ, ◌<◌, ◌≤◌, IfOk, OnOk, OnErr, IsOk, IsSome, [], None, length, slice_index};
+ghost use Rattle.gv_gpu.specs.Device.{Device, counted, added, place_in, released, poked, with_global, with_engine_general, with_spare, with_faults};
 ghost use Rattle.gv_gpu.specs.Context.{context_submitted, stopped};
 ghost use Rattle.gv_gpu.specs.Step.{physical_step};
 
 use crate::Step;
+use gv_ctx::Saved;
 use gv_types::{EngineId, GuestId, Label, OutOfMemory};
 use std::error::Error;
 use std::fmt;
@@ -49,6 +50,12 @@ pub trait Gpu {
         requires within { index < 512 }
         ensures { result ≡ slice_index ((state self.now).words page) index };
 
+    /// The words of a live page, which are 512. They aren't copied.
+    fn words(&self, page: u64) -> &[u64]
+        requires { IsSome ((state self.now).label page) }
+        ensures value { result.now ≡ (state self.now).words page }
+        ensures whole { length result.now ≡ 512 };
+
     /// Writes that word, and counts one poke.
     fn poke(&mut self, page: u64, index: usize, value: u64)
         requires live { IsSome ((state self.old).label page) }
@@ -74,6 +81,11 @@ pub trait Gpu {
         requires engine { engine.0 < 4 }
         requires register { n < 16 }
         ensures { state self.new ≡ with_engine_general (state self.old) engine.0 n value };
+
+    /// The place of the context that is loaded on an engine, and none where none is loaded.
+    fn place(&self, engine: EngineId) -> Option<Saved>
+        requires { engine.0 < 4 }
+        ensures { result ≡ place_in ((state self.now).loaded engine.0) };
 
     /// Saves the place of a loaded context into its image, and loads the context of the descriptor
     /// for its owner. After `GpuFailed` the count of faults has risen, and all else is as before.

@@ -1,4 +1,4 @@
-ghost use Rattle.std.specs.Prelude.{◌≡◌, ◌≢◌, ◌+◌, ◌/◌, ◌<◌, ◌≤◌, IsTrue, if◌then◌else◌};
+ghost use Rattle.std.specs.Prelude.{◌≡◌, ◌≢◌, ◌+◌, ◌/◌, ◌<◌, ◌≤◌, [], ◌∷◌, map, IsTrue, if◌then◌else◌};
 ghost use Rattle.gv_irq.specs.Irq.{reset_irq, raised, raising_tells, is_interrupt_register, irq_read, master_read, irq_written, writing_tells, first_deliverable, number_in, interrupt_bit, AreDwords};
 
 use crate::group::{Group, GroupId};
@@ -43,6 +43,32 @@ impl Irq {
             one: Group::new(),
             three: Group::new(),
         }
+    }
+
+    /// Registers that hold these: bit 31 of master, and IMR, IIR and IER of the groups 0, 1 and 3.
+    pub fn of(master: bool, zero: Group, one: Group, three: Group) -> Irq
+        ensures { result ≡ record { master = master; zero = group_of zero; one = group_of one; three = group_of three } }
+    {
+        Irq {
+            master,
+            zero,
+            one,
+            three,
+        }
+    }
+
+    /// Master's bit 31.
+    pub fn is_enabled(&self) -> bool
+        ensures { result ≡ self.now.master }
+    {
+        self.master
+    }
+
+    /// What the groups 0, 1 and 3 hold, in this order.
+    pub fn groups(&self) -> [Group; 3]
+        ensures { map group_of result ≡ self.now.zero ∷ self.now.one ∷ self.now.three ∷ [] }
+    {
+        [self.zero, self.one, self.three]
     }
 
     fn group(&self, id: GroupId) -> Group

@@ -7,6 +7,7 @@ mod group;
 mod irq;
 mod register;
 
+pub use group::Group;
 pub use irq::{Irq, interrupt_bit};
 
 #[cfg(test)]

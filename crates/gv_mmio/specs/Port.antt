@@ -11,6 +11,13 @@ writes_of (One a) = a ∷ []
 writes_of (Two a b) = a ∷ b ∷ []
 writes_of (Three a b c) = a ∷ b ∷ c ∷ []
 
+-- these dwords, filled up with 0 to three, and how many they are
+abbrev pub counted_writes : List ℕ → List ℕ × ℕ
+counted_writes [] = (0 ∷ 0 ∷ 0 ∷ [], 0)
+counted_writes (a ∷ []) = (a ∷ 0 ∷ 0 ∷ [], 1)
+counted_writes (a ∷ b ∷ []) = (a ∷ b ∷ 0 ∷ [], 2)
+counted_writes (a ∷ b ∷ c ∷ writes) = (a ∷ b ∷ c ∷ [], 3)
+
 -- The fourth dword leaves none.
 abbrev pub port_after : List ℕ → ℕ → List ℕ
 port_after (a ∷ b ∷ c ∷ []) value = []

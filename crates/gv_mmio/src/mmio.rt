@@ -10,6 +10,7 @@ ghost use Rattle.gv_private.specs.Roots.{named_root};
 ghost use Rattle.gv_private.specs.Status.{bit_raised, in_ring, status_page};
 ghost use Rattle.gv_private.specs.Submission.{with_writes, list_submitted};
 ghost use Rattle.gv_mmio.specs.Port.{writes_of, port_after, submission_in};
+ghost use Rattle.gv_mmio.specs.Ports.{ports_in};
 
 use crate::port::Submission;
 use crate::ports::{Ports, first_ports};
@@ -80,6 +81,45 @@ impl Mmio {
             interrupts: Irq::new(),
             engines: first_ports(),
         }
+    }
+
+    /// The device's part with these registers, interrupts and, for each engine, ports.
+    pub fn of(registers: Registers, interrupts: Irq, engines: [Ports; 4]) -> Mmio
+        ensures guest { guest_of result ≡ registers.guest }
+        ensures ranges { ranges_of result ≡ registers.ranges }
+        ensures registers { (p : PrivateDevice) → (behind p result).registers ≡ map_of registers }
+        ensures interrupts { (p : PrivateDevice) → (behind p result).interrupts ≡ interrupts }
+        ensures engines { (engine : ℕ) → ports_at result engine ≡ ports_in engines engine }
+    {
+        Mmio {
+            registers,
+            interrupts,
+            engines,
+        }
+    }
+
+    /// The registers that are kept here.
+    pub fn registers(&self) -> &Registers
+        ensures guest { result.now.guest ≡ guest_of self.now }
+        ensures ranges { result.now.ranges ≡ ranges_of self.now }
+        ensures map { (p : PrivateDevice) → map_of result.now ≡ (behind p self.now).registers }
+    {
+        &self.registers
+    }
+
+    /// The interrupt registers.
+    pub fn interrupts(&self) -> &Irq
+        ensures { (p : PrivateDevice) → result.now ≡ (behind p self.now).interrupts }
+    {
+        &self.interrupts
+    }
+
+    /// What is submitted to an engine.
+    pub fn ports(&self, engine: EngineId) -> &Ports
+        requires { engine.0 < 4 }
+        ensures { result.now ≡ ports_at self.now engine.0 }
+    {
+        &self.engines[engine.0 as usize]
     }
 
     /// Whose registers they are.

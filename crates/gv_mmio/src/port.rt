@@ -1,5 +1,5 @@
-ghost use Rattle.std.specs.Prelude.{◌≡◌, ◌+◌, ◌*◌, ◌^◌};
-ghost use Rattle.gv_mmio.specs.Port.{port_after, submission_in};
+ghost use Rattle.std.specs.Prelude.{◌≡◌, ◌+◌, ◌*◌, ◌^◌, ◌≤◌, take};
+ghost use Rattle.gv_mmio.specs.Port.{counted_writes, port_after, submission_in};
 
 use std::marker::Model;
 
@@ -22,6 +22,32 @@ pub enum Port {
 
 impl Port {
     ghost use Rattle.gv_mmio.specs.Port.{writes_of};
+
+    /// The port that took the first so many of these dwords, at most three.
+    pub fn of(dwords: [u32; 3], count: u8) -> Port
+        requires { count ≤ 3 }
+        ensures { writes_of result ≡ take count dwords }
+    {
+        let [first, second, third] = dwords;
+        match count {
+            0 => Port::Empty,
+            1 => Port::One(first),
+            2 => Port::Two(first, second),
+            _ => Port::Three(first, second, third),
+        }
+    }
+
+    /// The dwords that it took, filled up with 0, and how many they are.
+    pub fn dwords(&self) -> ([u32; 3], u8)
+        ensures { result ≡ counted_writes (writes_of self.now) }
+    {
+        match *self {
+            Port::Empty => ([0, 0, 0], 0),
+            Port::One(first) => ([first, 0, 0], 1),
+            Port::Two(first, second) => ([first, second, 0], 2),
+            Port::Three(first, second, third) => ([first, second, third], 3),
+        }
+    }
 
     /// Takes a dword. The fourth makes the submission, and the port is empty then.
     pub fn write(&mut self, value: u32) -> Option<Submission>

@@ -12,3 +12,4 @@ pub mod Stores
 pub mod Loading
 pub mod Seeing
 pub mod Contexts
+pub mod Putting

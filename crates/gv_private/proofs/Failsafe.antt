@@ -23,7 +23,7 @@ live-none : (m : Memory) (depth : ℕ) → live_below m [] depth ≡ []
 live-none m zero = refl
 live-none m (suc depth) = ap (tables_named m (4 - depth)) (live-none m depth) ∙ filter-never (range_with_len 0 (length m))
 
-bad-none : (m : Memory) → has_bad_entry m [] ≡ false
+pub bad-none : (m : Memory) → has_bad_entry m [] ≡ false
 bad-none m = λ i.
     list_any (any_entry m 4 is_bad_entry) (live-none m 0 i)
     || (list_any (any_entry m 3 is_bad_entry) (live-none m 1 i)

@@ -21,7 +21,7 @@ use Rattle.gv_regs.proofs.Blocks.{rows_near, near}
 
 abbrev has_slot : Option ℕ → ℕ → Bool
 has_slot None slot = true
-has_slot (Some at) slot = ltb slot 29 && is_number slot (slot_of at)
+has_slot (Some at) slot = ltb slot 33 && is_number slot (slot_of at)
 
 abbrev is_target : ℕ → Target → Bool
 is_target offset (Elsp engine) = ltb engine.0 4
@@ -47,8 +47,8 @@ number_is slot (Some n) h = ap Some (eqb-true n slot h)
 slot-has : (at : Option ℕ) (slot : ℕ) → has_slot at slot ≡ true → HasSlot at slot
 slot-has None slot h = tt
 slot-has (Some at) slot h =
-    let parts = and_parts (ltb slot 29) (is_number slot (slot_of at)) h in
-    (ltb-true slot 29 parts.0, number_is slot (slot_of at) parts.1)
+    let parts = and_parts (ltb slot 33) (is_number slot (slot_of at)) h in
+    (ltb-true slot 33 parts.0, number_is slot (slot_of at) parts.1)
 
 stands_by : (offset slot : ℕ) (target : Target) (kind : Kind) → target_at offset ≡ target → kind_at offset ≡ kind → dword_is_right target kind offset slot ≡ true → StandsAt offset (register_by target kind slot)
 stands_by offset slot Own kind t k h = record { target = t; kind = k; slot_is = slot-has (dword_read_by kind offset) slot h }

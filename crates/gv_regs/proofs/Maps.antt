@@ -20,7 +20,7 @@ place_of offset slot is =
     let known = position-Some (λ at. eqb at offset) kept_offsets slot 0 is in
     (known.0, eqb-true (get_or kept_offsets slot 0) offset known.1)
 
-many : length kept_offsets ≡ 29
+many : length kept_offsets ≡ 33
 unfolding kept_offsets
 many = refl
 
@@ -46,7 +46,7 @@ written_own map offset value slot kind own writes =
     ∙ ap (λ w. if w then with_register map offset (dword_after kind (map offset) value) else map) writes
 
 -- a kept register is written in its slot
-pub written : (dwords : List ℕ) (slot offset value new : ℕ) (kind : Kind) → length dwords ≡ 29 → IsOwn kind slot offset → is_written kind ≡ true → slot < 29 → slot_of offset ≡ Some slot → new ≡ dword_after kind (get_or dwords slot 0) value
+pub written : (dwords : List ℕ) (slot offset value new : ℕ) (kind : Kind) → length dwords ≡ 33 → IsOwn kind slot offset → is_written kind ≡ true → slot < 33 → slot_of offset ≡ Some slot → new ≡ dword_after kind (get_or dwords slot 0) value
     → (λ q. dword_in (set dwords slot new) (slot_of q)) ≡ register_written (λ q. dword_in dwords (slot_of q)) offset value
 written dwords slot offset value new kind same own writes below has is =
     let map : ℕ → ℕ = λ q. dword_in dwords (slot_of q) in
@@ -140,13 +140,13 @@ same_is false true h = cc
 same_is false false h = refl
 
 -- the first slots are the registers of the engines, six of each
-slots_right : list_all (λ slot. list_all (λ engine. are_same (is_kept_of engine (get_or kept_offsets slot 0)) (is_engine_slot engine slot)) (range_with_len 0 4)) (range_with_len 0 29) ≡ true
+slots_right : list_all (λ slot. list_all (λ engine. are_same (is_kept_of engine (get_or kept_offsets slot 0)) (is_engine_slot engine slot)) (range_with_len 0 4)) (range_with_len 0 33) ≡ true
 unfolding kept_offsets row_at
 slots_right = refl
 
-slot_right : (engine slot : ℕ) → engine < 4 → slot < 29 → is_kept_of engine (get_or kept_offsets slot 0) ≡ is_engine_slot engine slot
+slot_right : (engine slot : ℕ) → engine < 4 → slot < 33 → is_kept_of engine (get_or kept_offsets slot 0) ≡ is_engine_slot engine slot
 slot_right engine slot few below =
-    let here = at_number (λ s. list_all (λ e. are_same (is_kept_of e (get_or kept_offsets s 0)) (is_engine_slot e s)) (range_with_len 0 4)) 0 29 slot slots_right below in
+    let here = at_number (λ s. list_all (λ e. are_same (is_kept_of e (get_or kept_offsets s 0)) (is_engine_slot e s)) (range_with_len 0 4)) 0 33 slot slots_right below in
     let both = at_number (λ e. are_same (is_kept_of e (get_or kept_offsets (0 + slot) 0)) (is_engine_slot e (0 + slot))) 0 4 engine here few in
     let s : 0 + slot ≡ slot = omega arith in
     let e : 0 + engine ≡ engine = omega arith in
@@ -154,13 +154,13 @@ slot_right engine slot few below =
     (subst (λ m. are_same (is_kept_of m (get_or kept_offsets slot 0)) (is_engine_slot m slot) ≡ true) e
     (subst (λ n. are_same (is_kept_of (0 + engine) (get_or kept_offsets n 0)) (is_engine_slot (0 + engine) n) ≡ true) s both))
 
-below_cleared : (a s : ℕ) (dwords zeros : List ℕ) → length dwords ≡ 29 → a ≤ 23 → s < a → get_or (put_mid a 6 dwords zeros) s 0 ≡ get_or dwords s 0
+below_cleared : (a s : ℕ) (dwords zeros : List ℕ) → length dwords ≡ 33 → a ≤ 23 → s < a → get_or (put_mid a 6 dwords zeros) s 0 ≡ get_or dwords s 0
 below_cleared a s dwords zeros same few below = search (rules, places)
 
-in_cleared : (a s : ℕ) (dwords : List ℕ) → length dwords ≡ 29 → a ≤ 23 → a ≤ s → s < a + 6 → get_or (put_mid a 6 dwords (replicate 6 0)) s 0 ≡ 0
+in_cleared : (a s : ℕ) (dwords : List ℕ) → length dwords ≡ 33 → a ≤ 23 → a ≤ s → s < a + 6 → get_or (put_mid a 6 dwords (replicate 6 0)) s 0 ≡ 0
 in_cleared a s dwords same few from below = search (rules, places)
 
-above_cleared : (a s : ℕ) (dwords zeros : List ℕ) → length dwords ≡ 29 → length zeros ≡ 6 → a ≤ 23 → a + 6 ≤ s → get_or (put_mid a 6 dwords zeros) s 0 ≡ get_or dwords s 0
+above_cleared : (a s : ℕ) (dwords zeros : List ℕ) → length dwords ≡ 33 → length zeros ≡ 6 → a ≤ 23 → a + 6 ≤ s → get_or (put_mid a 6 dwords zeros) s 0 ≡ get_or dwords s 0
 above_cleared a s dwords zeros same six few above =
     let front : length (take a dwords) ≡ a = simp length-take (omega arith) in
     get_or-append_right (take a dwords) (zeros ++ drop 6 (drop a dwords)) a s 0 front (omega arith)
@@ -178,7 +178,7 @@ out_below a s value old below = grind (arith, nat_tests)
 out_above : (a s value old : ℕ) → a + 6 ≤ s → cond (leb a s && ltb s (a + 6)) value old ≡ old
 out_above a s value old above = grind (arith, nat_tests)
 
-cleared_at : (a s : ℕ) (dwords : List ℕ) → length dwords ≡ 29 → a ≤ 23 → get_or (put_mid a 6 dwords (replicate 6 0)) s 0 ≡ cond (leb a s && ltb s (a + 6)) 0 (get_or dwords s 0)
+cleared_at : (a s : ℕ) (dwords : List ℕ) → length dwords ≡ 33 → a ≤ 23 → get_or (put_mid a 6 dwords (replicate 6 0)) s 0 ≡ cond (leb a s && ltb s (a + 6)) 0 (get_or dwords s 0)
 cleared_at a s dwords same few =
     ⊎_elim
     (λ below. below_cleared a s dwords (replicate 6 0) same few below ∙ sym (out_below a s 0 (get_or dwords s 0) below))
@@ -188,7 +188,7 @@ cleared_at a s dwords same few =
     (cases_lt s (a + 6)))
     (cases_lt s a)
 
-cleared_by : (engine q : ℕ) (dwords : List ℕ) (at : Option ℕ) → engine < 4 → length dwords ≡ 29 → slot_of q ≡ at
+cleared_by : (engine q : ℕ) (dwords : List ℕ) (at : Option ℕ) → engine < 4 → length dwords ≡ 33 → slot_of q ≡ at
     → dword_in (put_mid (engine * 6) 6 dwords (replicate 6 0)) at ≡ cond (is_kept_of engine q) (reset_at q) (dword_in dwords at)
 cleared_by engine q dwords None few same is = same_choice (is_kept_of engine q) 0 ∙ chosen (is_kept_of engine q) (reset_at q) 0 (λ kept. reset_at-zero q (and_parts (keeps q) _ kept).0)
 cleared_by engine q dwords (Some s) few same is =
@@ -199,7 +199,7 @@ cleared_by engine q dwords (Some s) few same is =
     ∙ chosen (is_kept_of engine q) (reset_at q) (get_or dwords s 0) (λ kept. reset_at-zero q (and_parts (keeps q) _ kept).0)
 
 -- where the six dwords of an engine are 0, its registers are reset
-pub engine_cleared : (engine : ℕ) → engine < 4 → (dwords zeros : List ℕ) → length dwords ≡ 29 → zeros ≡ replicate 6 0
+pub engine_cleared : (engine : ℕ) → engine < 4 → (dwords zeros : List ℕ) → length dwords ≡ 33 → zeros ≡ replicate 6 0
     → (λ q. dword_in (put_mid (engine * 6) (engine * 6 + 6 - engine * 6) dwords zeros) (slot_of q)) ≡ engine_reset engine (λ q. dword_in dwords (slot_of q))
 engine_cleared engine few dwords zeros same is =
     let six : engine * 6 + 6 - engine * 6 ≡ 6 = omega arith in

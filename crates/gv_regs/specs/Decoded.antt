@@ -55,7 +55,7 @@ dword_read_by kind offset = None
 
 abbrev pub HasSlot : Option ℕ → ℕ → Type 0
 HasSlot None slot = Unit {0}
-HasSlot (Some at) slot = (slot < 29) × (slot_of at ≡ Some slot)
+HasSlot (Some at) slot = (slot < 33) × (slot_of at ≡ Some slot)
 
 pub record IsOwn (by : Kind) (slot offset : ℕ) : Type 0 where
   pub target : target_at offset ≡ Own

@@ -115,10 +115,19 @@ pvinfo_rows =
     ∷ shared 0x78838 2 Plain own 0  -- PDP0, low and high
     ∷ []
 
+-- the display plane
+abbrev pub plane_rows : List Row
+plane_rows =
+    shared 0x70180 1 Plain own 0  -- PLANE_CTL
+    ∷ shared 0x70188 1 Plain own 0  -- PLANE_STRIDE
+    ∷ shared 0x70190 1 Plain own 0  -- PLANE_SIZE
+    ∷ shared 0x7019C 1 Plain own 0  -- PLANE_SURF
+    ∷ []
+
 -- ---- the whole table
 
 abbrev pub shared_rows : List Row
-shared_rows = interrupt_rows ++ reset_rows ++ force_wake_rows ++ pvinfo_rows
+shared_rows = interrupt_rows ++ reset_rows ++ force_wake_rows ++ pvinfo_rows ++ plane_rows
 
 abbrev pub registers : List Row
 registers = flat_map engine_rows engines ++ shared_rows

@@ -11,6 +11,7 @@ mod table;
 pub use decode::{engines_reset, target};
 pub use effect::{Effect, Lookup, Target};
 pub use registers::Registers;
+pub use table::KEPT;
 
 #[cfg(test)]
 mod tests;

@@ -26,7 +26,7 @@ impl Model for Registers {
 
     ghost view = { file_of };
 
-    ghost invariant = { λ s. AreRanges s.ranges × (length s.kept ≡ 29) };
+    ghost invariant = { λ s. AreRanges s.ranges × (length s.kept ≡ 33) };
 }
 
 impl Registers {
@@ -43,6 +43,28 @@ impl Registers {
             ranges,
             kept: [0; KEPT],
         }
+    }
+
+    /// Registers that hold these dwords, in the table's order: for each engine tail, head, start and control of the
+    /// ring, the page of the status page and mode; the three force-wake requests; PDP0, low and high; and control,
+    /// stride, size and surface of the display plane.
+    pub fn of(guest: GuestId, ranges: Ranges, kept: [u32; KEPT]) -> Registers
+        requires low { ranges.low.first + ranges.low.pages ≤ 65536 }
+        requires high { ranges.high.first + ranges.high.pages ≤ 1032192 }
+        ensures { result ≡ record { guest = guest.0; ranges = ranges; kept = kept } }
+    {
+        Registers {
+            guest,
+            ranges,
+            kept,
+        }
+    }
+
+    /// The dwords that they hold, in the same order.
+    pub fn kept(&self) -> &[u32; KEPT]
+        ensures { result.now ≡ self.now.kept }
+    {
+        &self.kept
     }
 
     /// Whose registers they are.

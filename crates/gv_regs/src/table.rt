@@ -41,7 +41,7 @@ pub const ENGINE_SLOTS: usize = 6;
 pub const SHARED_SLOTS: usize = 24;
 
 /// How many dwords are kept.
-pub const KEPT: usize = 29;
+pub const KEPT: usize = 33;
 
 /// The registers of each engine, by their offsets from its base. The targets here name RCS.
 pub const ENGINE_ROWS: [Row; 7] = [
@@ -58,7 +58,7 @@ pub const ENGINE_ROWS: [Row; 7] = [
 ];
 
 /// The registers that no engine has.
-pub const SHARED_ROWS: [Row; 32] = [
+pub const SHARED_ROWS: [Row; 36] = [
     // master, and ISR, IMR, IIR and IER of the interrupt groups 0, 1 and 3
     Row(0x4_4200, 1, TopBit, Interrupts, 0),
     Row(0x4_4300, 1, ReadOnly, Interrupts, 0),
@@ -95,4 +95,9 @@ pub const SHARED_ROWS: [Row; 32] = [
     Row(0x7_8818, 1, Acting, Notify, 0),
     // PDP0, low and high
     Row(0x7_8838, 2, Plain, Own, 3),
+    // control, stride, size and surface of the display plane
+    Row(0x7_0180, 1, Plain, Own, 5),
+    Row(0x7_0188, 1, Plain, Own, 6),
+    Row(0x7_0190, 1, Plain, Own, 7),
+    Row(0x7_019c, 1, Plain, Own, 8),
 ];

@@ -1,2 +1,4 @@
 pub mod Layout
 pub mod Scan
+pub mod Lay
+pub mod Listed

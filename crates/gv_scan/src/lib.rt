@@ -6,12 +6,14 @@ mod append;
 mod batches;
 mod command;
 mod fault;
+mod lay;
 mod operands;
 mod program;
 mod reader;
 mod ring;
 
 pub use fault::ScanFault;
+pub use lay::{Level, lay_out};
 pub use program::Program;
 pub use reader::Reader;
 pub use ring::scan;

@@ -1,27 +1,9 @@
 -- What is left of an element makes global accesses on owned pages alone.
-use Rattle.std.specs.Prelude.{Option, None, Some}
 use Rattle.gv_types.specs.declared.ranges.Ranges.{Ranges}
 use Rattle.gv_cmd.specs.Simulation.{Access}
-use Rattle.gv_entry.specs.Ranges.{owns_page}
-use Rattle.gv_fetch.specs.Fetch.{GlobalSpace}
-use Rattle.gv_fetch.specs.Left.{Level, Fetched, At, Left}
-use Rattle.gv_fetch.specs.Owned.{AllOwned, MayAccess}
-
--- the global space of these ranges, as far as ownership goes: what it holds doesn't count
-abbrev pub owned_space : Ranges → GlobalSpace
-owned_space ranges = record { owned = owns_page ranges; word = λ at. 0 }
+use Rattle.gv_fetch.specs.Owned.{MayAccess}
+pub use Rattle.gv_fetch.specs.Owned.{owned_space, OwnsLevel, OwnsLeft}
 
 -- an access that is per process, or on an owned page
 abbrev pub MayReach : Ranges → Access → Type 0
 MayReach ranges a = MayAccess (owned_space ranges) a
-
--- each global operand of the commands that are left of a fetched batch; a live one has none
-abbrev pub OwnsLevel : Ranges → Option Level → Type 0
-OwnsLevel ranges None = Unit {0}
-OwnsLevel ranges (Some (Fetched items)) = AllOwned (owned_space ranges) items
-OwnsLevel ranges (Some (At at)) = Unit {0}
-
-pub record OwnsLeft (ranges : Ranges) (w : Left) : Type 0 where
-  pub ring : AllOwned (owned_space ranges) w.ring
-  pub first : OwnsLevel ranges w.first
-  pub second : OwnsLevel ranges w.second

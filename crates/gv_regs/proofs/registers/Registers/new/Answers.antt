@@ -3,4 +3,4 @@ use Rattle.gv_regs.proofs.Maps.{reset_is}
 use Rattle.gv_regs.proofs.registers.Registers.new.Goals as goal
 
 pub returns-clause-map : goal.returns-clause-map
-returns-clause-map c = reset_is (replicate 29 0) refl
+returns-clause-map c = reset_is (replicate 33 0) refl

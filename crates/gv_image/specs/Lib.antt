@@ -1,0 +1,4 @@
+pub mod Bytes
+pub mod Image
+pub mod Accepted
+pub mod Laws
