@@ -50,21 +50,58 @@ first_aligned h ws [] all = tt
 first_aligned h ws (row ∷ rows) all = by_if (has_header row h) (row.fields ws) _ all.0 (first_aligned h ws rows all.1)
 
 table_aligned : (ws : List ℕ) → RowsAligned ws table
-table_aligned ws =
-    (where_fits _ (pipe_fields ws) (post _ _ (quadword_aligned ws 2)),
-    (tt, (tt, (tt, (tt, (tt,
-    ((dword_aligned ws 2, tt),
-    (two _ _ _ (dword_aligned ws 1),
-    (tt,
-    ((dword_aligned ws 2, tt),
-    (post _ _ (quadword_aligned ws 1),
-    ((dword_aligned ws 2, tt),
-    (tt,
-    ((dword_aligned ws 3, (dword_aligned ws 1, tt)),
-    (tt,
-    (where_fits _ (ColourBlit (colour_fields ws)) tt,
-    (where_fits _ (CopyBlit (copy_fields ws)) tt,
-    tt)))))))))))))))))
+table_aligned ws = (
+  where_fits _ (pipe_fields ws) (post _ _ (quadword_aligned ws 2)),
+  (
+    tt,
+    (
+      tt,
+      (
+        tt,
+        (
+          tt,
+          (
+            tt,
+            (
+              (dword_aligned ws 2, tt),
+              (
+                two _ _ _ (dword_aligned ws 1),
+                (
+                  tt,
+                  (
+                    (dword_aligned ws 2, tt),
+                    (
+                      post _ _ (quadword_aligned ws 1),
+                      (
+                        (dword_aligned ws 2, tt),
+                        (
+                          tt,
+                          (
+                            (dword_aligned ws 3, (dword_aligned ws 1, tt)),
+                            (
+                              tt,
+                              (
+                                where_fits _ (ColourBlit (colour_fields ws)) tt,
+                                (
+                                  where_fits _ (CopyBlit (copy_fields ws)) tt,
+                                  tt,
+                                ),
+                              ),
+                            ),
+                          ),
+                        ),
+                      ),
+                    ),
+                  ),
+                ),
+              ),
+            ),
+          ),
+        ),
+      ),
+    ),
+  ),
+)
 
 pub accesses-aligned : (ws : List ℕ) → IfSome (kind_of ws) (λ kind. EachAccess IsAligned (accesses kind))
 unfolding kind_of

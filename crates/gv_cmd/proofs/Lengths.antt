@@ -61,19 +61,52 @@ blit_form : (h : ℕ) → AreLengths h blit_rows
 blit_form h = (untiled_form 7 h (lit≤ tt) (lit≤ tt), (untiled_form 10 h (lit≤ tt) (lit≤ tt), tt))
 
 table_form : (h : ℕ) → AreLengths h table
-table_form h =
-    (six (bits h 15 0),
-    (one, (one, (one, (one, (one,
-    (by_if _ _ None (four (bits h 7 0)) tt,
-    (by_if (has_bit h 21) _ _ (five (bits h 9 0)) (four (bits h 9 0)),
-    (registers_by (has_bit h 0) _ (bits h 7 0) refl,
-    (four (bits h 7 0),
-    (flush_form h,
-    (four (bits h 7 0),
-    (three (bits h 7 0),
-    (five (bits h 7 0),
-    (three (bits h 7 0),
-    blit_form h)))))))))))))))
+table_form h = (
+  six (bits h 15 0),
+  (
+    one,
+    (
+      one,
+      (
+        one,
+        (
+          one,
+          (
+            one,
+            (
+              by_if _ _ None (four (bits h 7 0)) tt,
+              (
+                by_if (has_bit h 21) _ _ (five (bits h 9 0)) (four (bits h 9 0)),
+                (
+                  registers_by (has_bit h 0) _ (bits h 7 0) refl,
+                  (
+                    four (bits h 7 0),
+                    (
+                      flush_form h,
+                      (
+                        four (bits h 7 0),
+                        (
+                          three (bits h 7 0),
+                          (
+                            five (bits h 7 0),
+                            (
+                              three (bits h 7 0),
+                              blit_form h,
+                            ),
+                          ),
+                        ),
+                      ),
+                    ),
+                  ),
+                ),
+              ),
+            ),
+          ),
+        ),
+      ),
+    ),
+  ),
+)
 
 pub length_of-form : (h : ℕ) → IfSome (length_of h) IsLength
 length_of-form h = first_form h table (table_form h)

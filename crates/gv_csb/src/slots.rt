@@ -65,8 +65,14 @@ fn counted(list: ([u64; 2], u8)) -> Option<Execlist>
     let ([element, next], count) = list;
     match count {
         0 => None,
-        1 => Some(Execlist { element, next: None }),
-        _ => Some(Execlist { element, next: Some(next) }),
+        1 => Some(Execlist {
+            element,
+            next: None,
+        }),
+        _ => Some(Execlist {
+            element,
+            next: Some(next),
+        }),
     }
 }
 
@@ -123,8 +129,18 @@ impl Slots {
     {
         match if pending { self.pending } else { self.running } {
             None => ([0, 0], 0),
-            Some(Execlist { element, next: None }) => ([element, 0], 1),
-            Some(Execlist { element, next: Some(next) }) => ([element, next], 2),
+            Some(
+                Execlist {
+                    element,
+                    next: None,
+                },
+            ) => ([element, 0], 1),
+            Some(
+                Execlist {
+                    element,
+                    next: Some(next),
+                },
+            ) => ([element, next], 2),
         }
     }
 

@@ -55,7 +55,8 @@ impl Gpu for CountingGpu {
 
     // Each of the 512 words counts.
     fn words(&self, page: u64) -> &[u64] {
-        self.reads.set(self.reads.get().saturating_add(PAGE_WORDS as u64));
+        self.reads
+            .set(self.reads.get().saturating_add(PAGE_WORDS as u64));
         self.inner.words(page)
     }
 

@@ -31,8 +31,7 @@ level-at (Some (At at)) offset before tail bs ring here is = (refl, refl)
 level-at (Some (Fetched items)) offset before tail bs ring here is =
     let i = lay offset items in
     let inner : bs ≡ before ++ (i.others ++ (i.own ++ tail)) = is ∙ ap (λ xs. before ++ xs) (append_assoc i.others i.own tail) in
-    let long = bytes-append before i.others in
-    (
+    let long = bytes-append before i.others in (
       refl,
       record {
         rest = i.own ++ tail;
@@ -146,12 +145,12 @@ module _ (base : ℕ) (p : Layout) (offsets : p.base ≡ 0) (batches : AreCopies
   level-placed stands engine (Some b) (Some (Fetched items)) may at = (
     at.0,
     (let P : ℕ → Type 0 = λ x. BatchAt base (placed_layout base p).batches x items in
-    subst P (fetched-goes b at.0) (record {
-      rest = map (placed base) at.1.rest;
-      begins = batch-begins b.at at.1.rest at.1.begins;
-      behind = map (placed base) at.1.behind;
-      copies = copies-placed base p offsets batches stands engine items at.1.rest at.1.behind may at.1.copies;
-    })),
+        subst P (fetched-goes b at.0) (record {
+          rest = map (placed base) at.1.rest;
+          begins = batch-begins b.at at.1.rest at.1.begins;
+          behind = map (placed base) at.1.behind;
+          copies = copies-placed base p offsets batches stands engine items at.1.rest at.1.behind may at.1.copies;
+        })),
   )
 
   pub follows-placed : (engine : ℕ) (place : Saved) (w : Left) → AreCopies p.ring → IsLeft engine w → Follows p place w → Follows (placed_layout base p) (placed_place base place) w

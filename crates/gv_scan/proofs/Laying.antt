@@ -36,10 +36,9 @@ laid-copies (batch ws items more) at before tail after bs here is =
     let own_long = bytes-append (before ++ i.others) i.own in
     let next_is : next ≡ bytes_of ((before ++ i.others) ++ i.own) = omega arith in
     let inner : bs ≡ before ++ (i.others ++ (i.own ++ (r.others ++ tail)))
-        = is ∙ ap (λ xs. before ++ xs) (append_assoc i.others (i.own ++ r.others) tail ∙ ap (λ xs. i.others ++ xs) (append_assoc i.own r.others tail)) in
+    = is ∙ ap (λ xs. before ++ xs) (append_assoc i.others (i.own ++ r.others) tail ∙ ap (λ xs. i.others ++ xs) (append_assoc i.own r.others tail)) in
     let split : bs ≡ (before ++ i.others) ++ (i.own ++ (r.others ++ tail)) = inner ∙ sym (append_assoc before i.others (i.own ++ (r.others ++ tail))) in
-    let rest : bs ≡ ((before ++ i.others) ++ i.own) ++ (r.others ++ tail) = split ∙ sym (append_assoc (before ++ i.others) i.own (r.others ++ tail)) in
-    (
+    let rest : bs ≡ ((before ++ i.others) ++ i.own) ++ (r.others ++ tail) = split ∙ sym (append_assoc (before ++ i.others) i.own (r.others ++ tail)) in (
       record {
         to = to;
         copy = refl;
@@ -130,8 +129,7 @@ laid-copied stands engine (batch ws items more) n may few =
     let rest_few : m + batch_dwords more ≤ 262144 = omega arith in
     let next : 4 * n + 4 * a + 4 * b ≡ 4 * m = omega arith in
     let rest : BothCopies (4 * n + 4 * a + 4 * b) more = (let P : ℕ → Type 0 = λ k. BothCopies k more in subst P (sym next) (laid-copied stands engine more m may.3 rest_few)) in
-    let low : 4 * n + 4 * a ≤ 2 ^ 20 = omega arith in
-    (
+    let low : 4 * n + 4 * a ≤ 2 ^ 20 = omega arith in (
       (start-copy ws (4 * n + 4 * a) (fits-four n a) low may.0.command may.1, rest.0),
       copies-joined i.others (i.own ++ (lay (4 * n + 4 * a + 4 * b) more).others) inner.1 (copies-joined i.own (lay (4 * n + 4 * a + 4 * b) more).others inner.0 rest.1),
     )

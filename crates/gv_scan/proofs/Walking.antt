@@ -77,24 +77,23 @@ module _ (words : List ℕ) (start at : ℕ) (b : ListsSecond words start) (c : 
       let f = front-of Second b.engine (drop at words) b.rest (command ws more) refl is may in
       let same : ws ≡ c = sym f.is ∙ same-front (drop at words) c f.begins decodes in
       let long = length-append ws (flat more) in
-      let here = ap length same in
-      (
+      let here = ap length same in (
         (λ ends.
-        let P : List ℕ → Type 0 = λ w. MatchBool (is_end (kind_of w)) (more ≡ none) (MayAllStand Second b.engine more) in
-        let Q : Bool → Type 0 = λ v. MatchBool v (more ≡ none) (MayAllStand Second b.engine more) in
-        let last : more ≡ none = subst Q ends (subst P same may.2) in
-        let nothing = ap (λ i. length (flat i)) last in
-        omega arith),
+            let P : List ℕ → Type 0 = λ w. MatchBool (is_end (kind_of w)) (more ≡ none) (MayAllStand Second b.engine more) in
+            let Q : Bool → Type 0 = λ v. MatchBool v (more ≡ none) (MayAllStand Second b.engine more) in
+            let last : more ≡ none = subst Q ends (subst P same may.2) in
+            let nothing = ap (λ i. length (flat i)) last in
+            omega arith),
         (λ goes.
-        let P : List ℕ → Type 0 = λ w. MatchBool (is_end (kind_of w)) (more ≡ none) (MayAllStand Second b.engine more) in
-        let Q : Bool → Type 0 = λ v. MatchBool v (more ≡ none) (MayAllStand Second b.engine more) in
-        let rest : MayAllStand Second b.engine more = subst Q goes (subst P same may.2) in
-        record {
-          left = more;
-          is = (let R : ℕ → Type 0 = λ n. drop (at + n) words ≡ flat more ++ b.rest in subst R here (past-front words b.rest ws (flat more) at is));
-          may = rest;
-          past = omega arith;
-        }),
+            let P : List ℕ → Type 0 = λ w. MatchBool (is_end (kind_of w)) (more ≡ none) (MayAllStand Second b.engine more) in
+            let Q : Bool → Type 0 = λ v. MatchBool v (more ≡ none) (MayAllStand Second b.engine more) in
+            let rest : MayAllStand Second b.engine more = subst Q goes (subst P same may.2) in
+            record {
+              left = more;
+              is = (let R : ℕ → Type 0 = λ n. drop (at + n) words ≡ flat more ++ b.rest in subst R here (past-front words b.rest ws (flat more) at is));
+              may = rest;
+              past = omega arith;
+            }),
       )
 
   pub second-ends : SecondSoFar words start at b → is_end (kind_of c) ≡ true → at + length c ≡ start + length (flat b.items)
@@ -112,7 +111,6 @@ within words left rest at is some =
     let l = ap length is ∙ length-append left rest in
     let d = length-drop at words in
     omega arith
-
 
 some-words : (stands : Stands) (engine : ℕ) (items : Items) → is_none items ≡ false → MayAllStand stands engine items → 1 ≤ length (flat items)
 some-words stands engine none some may = cc
@@ -206,6 +204,7 @@ module _ (words : List ℕ) (start at : ℕ) (before now own : List ℕ) (b : Li
     pub record Plain : Type 0 where
       pub more : Items
       pub is : so_far.left ≡ command c more
+
     pub record Starts : Type 0 where
       pub items : Items
       pub more : Items
@@ -293,9 +292,9 @@ module _ (words : List ℕ) (start at : ℕ) (before now own : List ℕ) (b : Li
           let last : more ≡ none = subst Q ends may_is.2 in
           let n = 4 * length now in
           let all_own : next ≡ concat (lay (4 * length before) b.items).own
-              = sym (append-nil next) ∙ ap (λ xs. next ++ xs) (sym (nothing-own n)) ∙ ap (λ i. next ++ concat (lay n i).own) (sym last) ∙ own_is next added in
+          = sym (append-nil next) ∙ ap (λ xs. next ++ xs) (sym (nothing-own n)) ∙ ap (λ i. next ++ concat (lay n i).own) (sym last) ∙ own_is next added in
           let all_others : now ≡ before ++ concat (lay (4 * length before) b.items).others
-              = sym (append-nil now) ∙ ap (λ xs. now ++ xs) (sym (nothing-others n)) ∙ ap (λ i. now ++ concat (lay n i).others) (sym last) ∙ others_is in
+          = sym (append-nil now) ∙ ap (λ xs. now ++ xs) (sym (nothing-others n)) ∙ ap (λ i. now ++ concat (lay n i).others) (sym last) ∙ others_is in
           let long = ap length all_others ∙ length-append before (concat (lay (4 * length before) b.items).others) in
           let nothing = ap (λ i. length (flat i)) last in
           let p = past_is in
@@ -348,9 +347,9 @@ module _ (words : List ℕ) (start at : ℕ) (before now own : List ℕ) (b : Li
           let own_long = ap length plain_inner.1 in
           let next_is : n + bytes_of i.others + bytes_of i.own ≡ 4 * length after = omega arith in
           let own_whole : own ++ (start_at c (n + bytes_of i.others) ++ concat (lay (n + bytes_of i.others + bytes_of i.own) later).own) ≡ concat (lay (4 * length before) b.items).own
-              = sym (ap (λ x. own ++ concat (lay n x).own) is_start) ∙ so_far.own_goes in
+          = sym (ap (λ x. own ++ concat (lay n x).own) is_start) ∙ so_far.own_goes in
           let others_whole : now ++ concat (i.others ++ (i.own ++ (lay (n + bytes_of i.others + bytes_of i.own) later).others)) ≡ before ++ concat (lay (4 * length before) b.items).others
-              = sym (ap (λ x. now ++ concat (lay n x).others) is_start) ∙ so_far.others_go in
+          = sym (ap (λ x. now ++ concat (lay n x).others) is_start) ∙ so_far.others_go in
           let long = length-append c (flat inner ++ flat later) in
           let two = length-append (flat inner) (flat later) in
           let p = so_far.past in

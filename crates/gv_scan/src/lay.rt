@@ -68,11 +68,7 @@ fn end_of(words: &[u32], start: usize) -> usize
 }
 
 // Appends a batch that starts none, and answers where it ends.
-fn second_level(
-    words: &[u32],
-    start: usize,
-    batches: &mut Vec<u32>,
-) -> Result<usize, OutOfMemory>
+fn second_level(words: &[u32], start: usize, batches: &mut Vec<u32>) -> Result<usize, OutOfMemory>
     requires lists { ListsSecond words.now start }
     ensures laid { IfOk result (λ at. (b : ListsSecond words.now start) → SecondLaid words.now start at batches.old.items batches.new.items b) }
     ensures within { IfOk result (λ at. at ≤ length words.now) }
@@ -166,11 +162,7 @@ pub enum Level<'a> {
 }
 
 // Appends what is left of a batch level, and answers the place in it.
-fn append_level(
-    alloc: Global,
-    level: Level,
-    batches: &mut Vec<u32>,
-) -> Result<Batch, OutOfMemory>
+fn append_level(alloc: Global, level: Level, batches: &mut Vec<u32>) -> Result<Batch, OutOfMemory>
     requires lists { LevelLists (Some level) (length batches.old.items) }
     ensures laid { IfOk result (λ place. (l : LevelLists (Some level.entry) (length batches.old.items)) → LevelLaid l.left batches.old.items batches.new.items (Some place)) }
 {
