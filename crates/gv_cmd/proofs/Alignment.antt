@@ -1,7 +1,7 @@
 -- Each dword that a listed command loads or stores is at a multiple of 4.
-use Rattle.std.proofs.Common.{◌≡◌, ℕ, ◌+◌, ◌*◌, ◌/◌, ◌%◌, ◌^◌, ◌&&◌, not, Bool, true, false, List, [], ◌∷◌, get_or, Option, None, Some, cond, eqb, arith}
+use Rattle.std.proofs.Common.{◌≡◌, ℕ, ◌+◌, ◌*◌, ◌/◌, ◌%◌, ◌^◌, ◌&&◌, not, Bool, true, false, List, [], ◌∷◌, get_or, Option, None, Some, cond, arith}
 use Rattle.std.specs.Prelude.{IfSome}
-use Rattle.gv_cmd.specs.Bits.{bits, dword_address, quadword_address}
+use Rattle.gv_cmd.specs.Bits.{dword_address, quadword_address}
 use Rattle.gv_cmd.specs.Table.{Row, has_header, pipe_fields, colour_fields, copy_fields, table, kind_in, kind_of}
 use Rattle.gv_cmd.specs.Simulation.{Access, IsAligned, AccessesAreAligned, dwords_at, post_accesses, accesses, EachAccess, MayDo}
 use Rattle.gv_cmd.specs.Effect.{is_skipped}

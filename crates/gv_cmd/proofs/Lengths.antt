@@ -5,7 +5,7 @@ use Rattle.std.proofs.lemmas.Bool.Decides.{nat_tests}
 use Rattle.gv_types.specs.Bits.{has_bit}
 use Rattle.gv_cmd.specs.Bits.{bits}
 use Rattle.gv_cmd.specs.Kind.{IsLength}
-use Rattle.gv_cmd.specs.Table.{Row, has_header, exactly, always, store_length, load_registers_length, flush_length, untiled, pipe_row, interface_rows, blit_rows, table, length_in, length_of}
+use Rattle.gv_cmd.specs.Table.{Row, has_header, exactly, always, flush_length, untiled, blit_rows, table, length_in, length_of}
 use Rattle.gv_cmd.specs.Command.{IsCommand, decoded}
 use Rattle.gv_cmd.proofs.Keeping.{decoded-append}
 
