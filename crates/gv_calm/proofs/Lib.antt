@@ -1,0 +1,13 @@
+pub mod Memories
+pub mod Rings
+pub mod Stores
+pub mod States
+pub mod Statuses
+pub mod Turning
+pub mod Writing
+pub mod Submitting
+pub mod Machines
+pub mod Rounds
+pub mod Starting
+pub mod Quiet
+pub mod Said
