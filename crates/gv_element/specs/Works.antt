@@ -169,3 +169,10 @@ StopsWork d e x = (root_page : ℕ) → Works d x.window.guest x.window.engine t
 
 abbrev pub ResumesWork : Device → Device → Held → Type 0
 ResumesWork d e x = (root_page : ℕ) → Works d x.window.guest x.window.engine false root_page x → WorksWith e x.window.guest x.window.engine true root_page x (left_of d x.window.guest x.window.engine false)
+
+-- ---- what a call leaves of the engines
+
+-- On every engine the context that was loaded is loaded still, or none, and the general registers are as they were.
+pub record KeepsEngines (d e : Device) : Type 0 where
+  pub loaded : e.loaded ≡ d.loaded
+  pub general : e.general ≡ d.general

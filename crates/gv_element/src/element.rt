@@ -1,5 +1,5 @@
 ghost use Rattle.std.specs.Prelude.{◌≡◌, ◌≤◌, ◌<◌, ◌+◌, ◌-◌, ℕ, [], IfOk, OnOk, OnErr, IsErrOf, None, true, length};
-ghost use Rattle.gv_element.specs.Works.{Begins, IsWindow, ResumesWork, Rests, StopsWork, element_part, image_filled, started};
+ghost use Rattle.gv_element.specs.Works.{Begins, IsWindow, KeepsEngines, ResumesWork, Rests, StopsWork, element_part, image_filled, started};
 ghost use Rattle.gv_gpu.specs.Context.{stopped, context_submitted};
 ghost use Rattle.gv_gpu.specs.Device.{counted, with_faults, with_spare};
 ghost use Rattle.gv_gpu.specs.Part.{outside, window_part};
@@ -100,7 +100,8 @@ impl Element {
     /// whose window is absent. Its per-process space is that of the root's host page. All memory is taken
     /// before the context is submitted, a journal entry's too, so that the first step needs none.
     ///
-    /// After a fault nothing is loaded, the window is absent again, and no page is kept.
+    /// After a fault nothing is loaded and every other engine is as it was, the window is absent again, and no page is
+    /// kept.
     pub fn load<G: Gpu>(
         alloc: Global,
         gpu: &mut G,
@@ -129,6 +130,7 @@ impl Element {
         ensures registers { (G.state gpu.new).general ≡ (G.state gpu.old).general }
 
         // after a fault
+        ensures unsubmitted { OnErr result (KeepsEngines (G.state gpu.old) (G.state gpu.new)) }
         ensures unchanged { OnErr result (outside (element_part guest.0 engine.0 []) (G.state gpu.new) ≡ outside (element_part guest.0 engine.0 []) (with_faults (G.state gpu.old) (G.state gpu.new).faults)) }
         ensures idle { OnErr result ((G.state gpu.new).loaded engine.0 ≡ None) }
         ensures absent { OnErr result (WindowIsAbsent (G.state gpu.new) guest.0 engine.0) }

@@ -11,12 +11,15 @@ use Rattle.gv_gtt.specs.Gtt.{number_of}
 use Rattle.gv_machine.specs.Machine.{device_at, event_receiver, guest_in}
 use Rattle.gv_sched.specs.Rota.{owner_of}
 use Rattle.gv_vgpu.specs.Access.{AccessMoves, AccessPokes, FrameMoves, WritePokes}
+use Rattle.gv_vgpu.specs.Exact.{GrantsAreExact}
 use Rattle.gv_vgpu.specs.Followed.{FollowsTables}
 use Rattle.gv_vgpu.specs.Vgpu.{private_of}
 use Rattle.gv_vgpu.specs.declared.vgpu.Vgpu.{Vgpu}
+use Rattle.gv_vgpu.proofs.Exact.{grants_stay_exact}
 use Rattle.gv_vgpu.proofs.Followed.{tables_are_followed}
 use Rattle.gv_mediator.specs.Rota.{owners_in, owns}
-use Rattle.gv_mediator.specs.Tables.{AllFollow, EventMoves, EventPokes}
+use Rattle.gv_mediator.specs.Listed.{AnswersOnce}
+use Rattle.gv_mediator.specs.Tables.{AllExact, AllFollow, EventMoves, EventOnce, EventPokes}
 use Rattle.gv_mediator.specs.Tied.{IsAt, Tied, Ties, machine_of}
 use Rattle.gv_mediator.specs.declared.mediator.Mediator.{Mediator}
 use Rattle.gv_mediator.proofs.OneGuest.{device-there, one-there}
@@ -33,6 +36,18 @@ all-follow d m tied g v at =
 pub follow-ok : {A E : Type 0} (r : Result A E) (d : Device) (m : Mediator) (stopped : Bool) → OnOk r (Tied d m) → OnOk r (AllFollow d (record m { stopped = stopped }))
 follow-ok (Ok a) d m stopped tied = all-follow d m tied
 follow-ok (Err e) d m stopped tied = tt
+
+-- ---- grants
+
+all-exact : (d : Device) (m : Mediator) → Tied d m → AllExact d m
+all-exact d m tied g v at =
+    let owners = owners_in m.rota in
+    subst (GrantsAreExact d v (owns owners g)) (sym (device-there d owners m.guests.items g v at ∙ ap (λ n. private_of d v (owns owners n)) (tied.ties.number g v at)))
+    (grants_stay_exact d v (owns owners g) (tied.ties.holds g v at))
+
+pub exact-ok : {A E : Type 0} (r : Result A E) (d : Device) (m : Mediator) (stopped : Bool) → OnOk r (Tied d m) → OnOk r (AllExact d (record m { stopped = stopped }))
+exact-ok (Ok a) d m stopped tied = all-exact d m tied
+exact-ok (Err e) d m stopped tied = tt
 
 -- ---- one guest's device among all
 
@@ -53,6 +68,13 @@ module _ (d e : Device) (m : Mediator) (k : ℕ) (old new : Vgpu) (stopped : Boo
   moves-then (Reset guest) answer mine moves = tt
   moves-then (Turn engine) answer mine moves = tt
   moves-then (Switch engine) answer mine moves = tt
+
+  pub once-then : (one : Event) (answer : Answer) → guest_in (event_receiver (owner_of m.rota) one) ≡ Some k → AnswersOnce (owns (owners_in m.rota) k) d e old new one answer → EventOnce d e m after one answer
+  once-then one answer mine once g v w own before now =
+      let same : g ≡ k = same-some g k (sym own ∙ mine) in
+      subst (λ n. AnswersOnce (owns (owners_in m.rota) n) d e v w one answer) (sym same)
+      (subst (λ v. AnswersOnce (owns (owners_in m.rota) k) d e v w one answer) (one-there m.guests.items k old v here (subst (λ n. IsAt m.guests.items n v) same before))
+      (subst (λ w. AnswersOnce (owns (owners_in m.rota) k) d e old w one answer) (one-there after.guests.items k new w set-there (subst (λ n. IsAt after.guests.items n w) same now)) once))
 
   module _ (ties : Ties d (owners_in m.rota) m.guests.items) (number : number_of new.gtt ≡ number_of old.gtt) where
     before-is : device_at (machine_of d m).devices k ≡ private_of d old (owns (owners_in m.rota) k)

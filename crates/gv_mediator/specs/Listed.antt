@@ -1,6 +1,6 @@
 -- At which events the device may fault, and which may lack memory; a switch that changes nothing, and a turn as one step of
 -- the device.
-use Rattle.std.specs.Prelude.{◌≡◌, ◌≢◌, IsSome, ⊤}
+use Rattle.std.specs.Prelude.{◌≡◌, ◌≢◌, ℕ, Bool, IsSome, ⊤}
 use Rattle.gv_types.specs.declared.event.Event.{Event}
 use Rattle.gv_types.specs.declared.event.Event.TheVariants.{Turn, Switch, Reset}
 use Rattle.gv_types.specs.declared.reply.Answer.{Answer}
@@ -12,6 +12,7 @@ use Rattle.gv_private.specs.Device.{PrivateDevice}
 use Rattle.gv_private.specs.Turn.{turned}
 use Rattle.gv_vgpu.specs.Access.{AccessMayFault, AccessMayLackMemory}
 use Rattle.gv_vgpu.specs.Turn.{StepsOnce}
+use Rattle.gv_vgpu.specs.declared.vgpu.Vgpu.{Vgpu}
 
 -- ---- faults
 
@@ -52,7 +53,7 @@ abbrev pub KeepsOwner : Machine → Event → Type 0
 KeepsOwner m (Switch engine) = owner_after m engine.0 ≡ m.owners engine.0
 KeepsOwner m one = ⊥
 
--- a turn on which a command ran, or waited, is one step of the device
-abbrev pub AnswersOnce : Device → Device → Event → Answer → Type 0
-AnswersOnce d e (Turn engine) (answers.Turn outcome) = StepsOnce d e engine.0 outcome
-AnswersOnce d e one answer = ⊤
+-- a turn of a guest's device is one step of the shared one at the most, and exactly one where an element is at work
+abbrev pub AnswersOnce : (ℕ → Bool) → Device → Device → Vgpu → Vgpu → Event → Answer → Type 0
+AnswersOnce here d e old new (Turn engine) (answers.Turn outcome) = StepsOnce here d e old new engine.0 outcome
+AnswersOnce here d e old new one answer = ⊤

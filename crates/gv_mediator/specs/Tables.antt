@@ -1,15 +1,19 @@
 -- What a reply promises of the guests' own tables, frames and memory, and of the copies of their elements.
-use Rattle.std.specs.Prelude.{ℕ, Option, ⊤}
+use Rattle.std.specs.Prelude.{◌≡◌, ℕ, Option, Some, ⊤}
 use Rattle.gv_types.specs.declared.event.Event.{Event}
 use Rattle.gv_types.specs.declared.event.Event.TheVariants.{Move, Write}
 use Rattle.gv_types.specs.declared.reply.Answer.{Answer}
 use Rattle.gv_types.specs.declared.reply.Reason.{Reason}
 use Rattle.gv_gpu.specs.Device.{Device}
-use Rattle.gv_machine.specs.Machine.{Machine, device_at}
+use Rattle.gv_machine.specs.Machine.{Machine, device_at, event_receiver, guest_in}
+use Rattle.gv_sched.specs.Rota.{owner_of}
 use Rattle.gv_vgpu.specs.Access.{FrameMoves, WritePokes}
 use Rattle.gv_vgpu.specs.Copies.{CopiesStay}
+use Rattle.gv_vgpu.specs.Exact.{GrantsAreExact}
 use Rattle.gv_vgpu.specs.Followed.{FollowsTables}
 use Rattle.gv_vgpu.specs.declared.vgpu.Vgpu.{Vgpu}
+use Rattle.gv_mediator.specs.Listed.{AnswersOnce}
+use Rattle.gv_mediator.specs.Rota.{owners_in, owns}
 use Rattle.gv_mediator.specs.Tied.{IsAt, machine_of}
 use Rattle.gv_mediator.specs.declared.mediator.Mediator.{Mediator}
 
@@ -18,10 +22,20 @@ use Rattle.gv_mediator.specs.declared.mediator.Mediator.{Mediator}
 abbrev pub AllFollow : Device → Mediator → Type 0
 AllFollow d m = (g : ℕ) (v : Vgpu) → IsAt m.guests.items g v → FollowsTables d v (device_at (machine_of d m).devices g)
 
+-- What the engines of each guest touch of its memory at their next step is exactly what is asked for and its private
+-- device grants.
+abbrev pub AllExact : Device → Mediator → Type 0
+AllExact d m = (g : ℕ) (v : Vgpu) → IsAt m.guests.items g v → GrantsAreExact d v (owns (owners_in m.rota) g) (device_at (machine_of d m).devices g)
+
 -- A frame that moved stands in a host page of another number, and one that was kept in its own.
 abbrev pub EventMoves : Device → Mediator → Mediator → Event → Answer → Type 0
 EventMoves e old new (Move guest frame) answer = (v w : Vgpu) → IsAt old.guests.items guest.0 v → IsAt new.guests.items guest.0 w → FrameMoves e v w frame answer
 EventMoves e old new one answer = ⊤
+
+-- A turn is one step of the device for the guest that owns the engine.
+abbrev pub EventOnce : Device → Device → Mediator → Mediator → Event → Answer → Type 0
+EventOnce d e old new one answer = (g : ℕ) (v w : Vgpu) → guest_in (event_receiver (owner_of old.rota) one) ≡ Some g → IsAt old.guests.items g v → IsAt new.guests.items g w
+    → AnswersOnce (owns (owners_in old.rota) g) d e v w one answer
 
 -- Whatever a guest or an engine writes: an element that is at work before an event and after it is the same, and no word
 -- of the copies that it runs from changed.

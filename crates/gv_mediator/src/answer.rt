@@ -1,4 +1,5 @@
 ghost use Rattle.std.specs.Prelude.{◌≡◌, ◌<◌, ◌≤◌, length, map, [], ◌∷◌, false, Some, is_err, IfOk, IfErr, OnOk, OnErr, IsErrOf};
+ghost use Rattle.gv_element.specs.Works.{KeepsEngines};
 ghost use Rattle.gv_gpu.specs.Change.{Ran};
 ghost use Rattle.gv_gpu.specs.Device.{counted};
 ghost use Rattle.gv_gtt.specs.Gtt.{frames_of, number_of};
@@ -12,7 +13,7 @@ ghost use Rattle.gv_mediator.specs.Listed.{AnswersOnce, DeviceMayFault, DeviceMa
 ghost use Rattle.gv_vgpu.specs.Vgpu.{private_of};
 ghost use Rattle.gv_vgpu.specs.Owners.{is_here};
 ghost use Rattle.gv_vgpu.specs.Standing.{HasRoomToLoad, Holds};
-ghost use Rattle.gv_mediator.specs.Tables.{AllCopiesStay, AllFollow, EventMoves, EventPokes};
+ghost use Rattle.gv_mediator.specs.Tables.{AllCopiesStay, AllExact, AllFollow, EventMoves, EventOnce, EventPokes};
 ghost use Rattle.gv_mediator.specs.Tied.{Tied, machine_of};
 
 use crate::mediator::Mediator;
@@ -39,7 +40,8 @@ fn answer<G: Gpu>(
     ensures stops { IfErr result (λ stop. Stops (is_here here) (G.state gpu.old) (G.state gpu.new) device.old stop) }
     ensures faults { IsErrOf result Stop.DeviceFault → DeviceMayFault (private_of (G.state gpu.old) device.old (is_here here)) event.now }
     ensures lacks { IsErrOf result Stop.OutOfMemory → DeviceMayLackMemory (G.state gpu.old) (private_of (G.state gpu.old) device.old (is_here here)) event.now }
-    ensures once { IfOk result (λ reply. AnswersOnce (G.state gpu.old) (G.state gpu.new) event.now reply.answer) }
+    ensures unsubmitted { IsErrOf result Stop.OutOfMemory → KeepsEngines (G.state gpu.old) (G.state gpu.new) }
+    ensures once { IfOk result (λ reply. AnswersOnce (is_here here) (G.state gpu.old) (G.state gpu.new) device.old device.new event.now reply.answer) }
     ensures moves { IfOk result (λ reply. AccessMoves (G.state gpu.new) device.old device.new event.now reply.answer) }
     ensures pokes { IfOk result (λ reply. AccessPokes (G.state gpu.old) (G.state gpu.new) (private_of (G.state gpu.old) device.old (is_here here)) (private_of (G.state gpu.new) device.new (is_here here)) event.now reply.failsafe) }
 {
@@ -98,7 +100,8 @@ impl Mediator {
         ensures memory { IsErrOf result Stop.OutOfMemory → (G.state gpu.new).faults ≡ (G.state gpu.old).faults }
         ensures faults { IsErrOf result Stop.DeviceFault → EventMayFault (machine_of (G.state gpu.old) self.old) event.now }
         ensures lacks { IsErrOf result Stop.OutOfMemory → EventMayLackMemory (G.state gpu.old) (machine_of (G.state gpu.old) self.old) event.now }
-        ensures once { IfOk result (λ reply. AnswersOnce (G.state gpu.old) (G.state gpu.new) event.now reply.answer) }
+        ensures unsubmitted { IsErrOf result Stop.OutOfMemory → KeepsEngines (G.state gpu.old) (G.state gpu.new) }
+        ensures once { IfOk result (λ reply. EventOnce (G.state gpu.old) (G.state gpu.new) self.old self.new event.now reply.answer) }
         ensures moves { IfOk result (λ reply. EventMoves (G.state gpu.new) self.old self.new event.now reply.answer) }
         ensures copies { OnOk result (AllCopiesStay (G.state gpu.old) (G.state gpu.new) self.old self.new) }
         ensures pokes { IfOk result (λ reply. EventPokes (G.state gpu.old) (G.state gpu.new) (machine_of (G.state gpu.old) self.old) (machine_of (G.state gpu.new) self.new) event.now reply.failsafe) }
@@ -123,8 +126,9 @@ impl Mediator {
         ensures memory { IsErrOf result Stop.OutOfMemory → (G.state gpu.new).faults ≡ (G.state gpu.old).faults }
         ensures faults { IsErrOf result Stop.DeviceFault → EventMayFault (machine_of (G.state gpu.old) self.old) event.now }
         ensures lacks { IsErrOf result Stop.OutOfMemory → EventMayLackMemory (G.state gpu.old) (machine_of (G.state gpu.old) self.old) event.now }
+        ensures unsubmitted { IsErrOf result Stop.OutOfMemory → KeepsEngines (G.state gpu.old) (G.state gpu.new) }
         ensures stays { KeepsOwner (machine_of (G.state gpu.old) self.old) event.now → G.state gpu.new ≡ G.state gpu.old }
-        ensures once { IfOk result (λ reply. AnswersOnce (G.state gpu.old) (G.state gpu.new) event.now reply.answer) }
+        ensures once { IfOk result (λ reply. EventOnce (G.state gpu.old) (G.state gpu.new) self.old self.new event.now reply.answer) }
         ensures moves { IfOk result (λ reply. EventMoves (G.state gpu.new) self.old self.new event.now reply.answer) }
         ensures copies { OnOk result (AllCopiesStay (G.state gpu.old) (G.state gpu.new) self.old self.new) }
         ensures pokes { IfOk result (λ reply. EventPokes (G.state gpu.old) (G.state gpu.new) (machine_of (G.state gpu.old) self.old) (machine_of (G.state gpu.new) self.new) event.now reply.failsafe) }
@@ -141,7 +145,8 @@ impl Mediator {
     /// One event: the reply is that of the machine, which is as after the event then. After a `Stop` no further event is
     /// taken. `DeviceFault` comes only at a turn that isn't idle, at a reset, at an access at which the guest's device may fault, and at a
     /// switch by which the owner changes; `OutOfMemory` only at a turn that isn't idle, at a move that isn't kept, and at a write of a live
-    /// table or of notify, and where no fault was counted. A reply passes over no fault of the device.
+    /// table or of notify, and where no fault was counted; no engine's state changed then. A reply passes over no fault of
+    /// the device.
     pub fn event<G: Gpu>(
         &mut self,
         alloc: Global,
@@ -162,12 +167,14 @@ impl Mediator {
         ensures memory { IsErrOf result Stop.OutOfMemory → (G.state gpu.new).faults ≡ (G.state gpu.old).faults }
         ensures faults { IsErrOf result Stop.DeviceFault → EventMayFault (machine_of (G.state gpu.old) self.old) event.now }
         ensures lacks { IsErrOf result Stop.OutOfMemory → EventMayLackMemory (G.state gpu.old) (machine_of (G.state gpu.old) self.old) event.now }
+        ensures unsubmitted { IsErrOf result Stop.OutOfMemory → KeepsEngines (G.state gpu.old) (G.state gpu.new) }
         ensures stays { KeepsOwner (machine_of (G.state gpu.old) self.old) event.now → G.state gpu.new ≡ G.state gpu.old }
-        ensures once { IfOk result (λ reply. AnswersOnce (G.state gpu.old) (G.state gpu.new) event.now reply.answer) }
+        ensures once { IfOk result (λ reply. EventOnce (G.state gpu.old) (G.state gpu.new) self.old self.new event.now reply.answer) }
         ensures moves { IfOk result (λ reply. EventMoves (G.state gpu.new) self.old self.new event.now reply.answer) }
         ensures copies { OnOk result (AllCopiesStay (G.state gpu.old) (G.state gpu.new) self.old self.new) }
         ensures pokes { IfOk result (λ reply. EventPokes (G.state gpu.old) (G.state gpu.new) (machine_of (G.state gpu.old) self.old) (machine_of (G.state gpu.new) self.new) event.now reply.failsafe) }
         ensures followed { OnOk result (AllFollow (G.state gpu.new) self.new) }
+        ensures exact { OnOk result (AllExact (G.state gpu.new) self.new) }
     {
         let answer = self.received(alloc, gpu, event);
         self.stopped = answer.is_err();

@@ -6,7 +6,6 @@ use Rattle.gv_element.specs.Works.{Held}
 use Rattle.gv_element.proofs.Beside.{stay-apart}
 use Rattle.gv_entry.specs.Ranges.{InParts}
 use Rattle.gv_gpu.specs.Device.{Device}
-use Rattle.gv_gpu.specs.Part.{outside}
 use Rattle.gv_gtt.specs.Changes.{Changes}
 use Rattle.gv_gtt.specs.Gtt.{gtt_part, memory_of, number_of, ranges_of}
 use Rattle.gv_gtt.specs.Standing.{Stands}

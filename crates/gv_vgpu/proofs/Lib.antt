@@ -13,12 +13,14 @@ mod ResetAll
 mod Zeros
 pub mod Others
 pub mod Followed
+pub mod Exact
 pub mod Small
 mod Raised
 mod Ended
 mod Finished
 mod Stepped
 mod Running
+mod OneStep
 mod Outcomes
 pub mod Kept
 pub mod Written
@@ -32,6 +34,8 @@ mod Runs
 mod Dwords
 mod Pairs
 mod Plain
+mod Unsubmitted
+mod BesideNotify
 mod Moves
 mod Images
 mod Steps

@@ -10,7 +10,7 @@ use Rattle.gv_types.specs.declared.reply.Reason.{Reason}
 use Rattle.gv_types.specs.declared.reply.Reason.TheVariants.{Command}
 use Rattle.gv_types.specs.declared.reply.Stop.{Stop}
 use Rattle.gv_csb.specs.Slots.{current_of}
-use Rattle.gv_element.specs.Works.{Held}
+use Rattle.gv_element.specs.Works.{Held, KeepsEngines}
 use Rattle.gv_gpu.specs.Device.{Device, with_spare}
 use Rattle.gv_gpu.specs.Step.{physical_step}
 use Rattle.gv_gpu.specs.declared.step.Step.{Step}
@@ -27,7 +27,7 @@ use Rattle.gv_fetch.specs.Left.{is_done, stands_of}
 use Rattle.gv_cmd.specs.Allowed.{is_allowed}
 use Rattle.gv_cmd.specs.Command.{decoded}
 use Rattle.gv_cmd.specs.declared.command.Unlisted.{Unlisted}
-use Rattle.gv_vgpu.specs.Changes.{ChangesOwn, Makes, Stops, Turns, injected}
+use Rattle.gv_vgpu.specs.Changes.{ChangesOwn, Keeps, Makes, Stops, Turns, injected}
 use Rattle.gv_vgpu.specs.Vgpu.{element_in, engine_at, no_engine, private_of, working_in}
 use Rattle.gv_vgpu.specs.Standing.{Holds, Occupies}
 use Rattle.gv_vgpu.specs.Turn.{Completes, HasEnded, Made, StepsOnce}
@@ -35,6 +35,7 @@ use Rattle.gv_vgpu.specs.declared.engine.Engine.{Engine}
 use Rattle.gv_vgpu.specs.declared.vgpu.Vgpu.{Vgpu}
 use Rattle.gv_vgpu.specs.declared.notice.Notice.{Notice}
 use Rattle.gv_vgpu.proofs.Failing.{holds-occupies}
+use Rattle.gv_vgpu.proofs.OneStep.{made-as, next-none, none-once, off-keeps, steps-then, work-once}
 use Rattle.gv_vgpu.proofs.Own.{stops-then}
 use Rattle.gv_vgpu.proofs.Running.{ran-holds, ran-turns}
 use Rattle.gv_vgpu.proofs.Stepped.{Alike, awake, ended-turns, failed-turns, has-ended, keeps-none, never-idle, none-ran, runs-alike, spared-holds, spared-keeps, spared-turns, unlisted-same, waited-turns}
@@ -113,6 +114,29 @@ module _ (d : Device) (v : Vgpu) (here : ℕ → Bool) (engine : ℕ) (holds : H
     pub step-failed-stops : (g : Device) (stop : Stop) → Stops here e g v stop → Stops here d g v stop
     step-failed-stops g stop stops = stops-then here d e g v v stop (subst (λ e. ChangesOwn here d e v v) (sym same) (spared-keeps d made.room v here holds).changes) stops
 
+  -- ---- and it is one step
+
+  pub step-ran-once : (command : List ℕ) (raise : ℕ) (new : Vgpu) → answer ≡ steps.Ran command raise → StepsOnce here d e v new engine outcomes.Ran
+  step-ran-once command raise new at = work-once here d e v new engine outcomes.Ran work (command, raise, made-as d e engine answer (steps.Ran command raise) at made)
+
+  pub step-waited-once : answer ≡ steps.Waits → StepsOnce here d e v v engine outcomes.Waited
+  step-waited-once at = work-once here d e v v engine outcomes.Waited work (made-as d e engine answer steps.Waits at made)
+
+  pub step-ended-once :
+      (g : Device) (new : Vgpu) (notice : Notice) → answer ≡ steps.Ended → ((ended : HasEnded e v here engine) → Completes here engine ended.before g v new ended.element notice) → KeepsEngines e g
+      → StepsOnce here d g v new engine outcomes.Ended
+  step-ended-once g new notice at completes engines =
+      let done : Completes here engine f g v new x notice = completes (ended-at at) in
+      work-once here d g v new engine outcomes.Ended work (
+        steps-then here d e g v new engine steps.Ended (made-as d e engine answer steps.Ended at made)
+            (subst (λ e. Keeps here e g v new) (sym (ended-at at).ended) (off-keeps here engine f g v new own done.keeps)),
+        engines,
+      )
+
+  pub step-failed-once : (g : Device) (new : Vgpu) (notice : Notice) → answer ≡ steps.Unlisted → Makes here e g v new (fails (private_of e v here) Command) notice → StepsOnce here d g v new engine outcomes.Failed
+  step-failed-once g new notice at fail =
+      work-once here d g v new engine outcomes.Failed work (steps-then here d e g v new engine steps.Unlisted (made-as d e engine answer steps.Unlisted at made) fail.keeps)
+
   pub step-ran-turns :
       (command : List ℕ) (raise : ℕ) (new : Vgpu) (irq : Option ℕ) → answer ≡ steps.Ran command raise → slice_index command 1 < 2 ^ 32
       → ((d : Device) (here : ℕ → Bool) → Holds d v here → Makes here d d v new (command_raised (private_of d v here) engine raise) (injected irq))
@@ -152,18 +176,11 @@ module _ (d : Device) (v : Vgpu) (here : ℕ → Bool) (engine : ℕ) (holds : H
   idle-by [] current = refl
   idle-by (descriptor ∷ more) current = cc
 
-  once-by : (e : Device) (r : Result PrivateDevice Reason) → StepsOnce d e engine (load_by p r).outcome
-  once-by e (Ok q) = tt
-  once-by e (Err reason) = tt
-
-  once-next : (e : Device) (running : List ℕ) → StepsOnce d e engine (next_by p engine running).outcome
-  once-next e [] = tt
-  once-next e (descriptor ∷ more) = once-by e (loaded p engine descriptor)
-
   -- the turn steps nothing
-  pub loads-once : (e : Device) (new : Vgpu) (outcome : Outcome) (notice : Notice) → Turns here d e v new (turned p engine) outcome notice → StepsOnce d e engine outcome
-  loads-once e new outcome notice turns =
-      subst (λ outcome. StepsOnce d e engine outcome) (sym (λ i. (next-is i).outcome) ∙ turns.outcome_is) (once-next e (ports_at v.mmio engine).slots.running)
+  pub loads-once : (e : Device) (new : Vgpu) (outcome : Outcome) (notice : Notice) → (current_of (ports_at v.mmio engine).slots.running ≡ None → ⊥) → Turns here d e v new (turned p engine) outcome notice → StepsOnce here d e v new engine outcome
+  loads-once e new outcome notice some turns =
+      none-once here d e v new engine outcome none
+      (next-none here d e v new p engine (ports_at v.mmio engine).slots.running outcome notice some (subst (λ t. Turns here d e v new t outcome notice) next-is turns))
 
   -- without a list the engine is idle
   pub idle-turns : current_of (ports_at v.mmio engine).slots.running ≡ None → Turns here d d v v (turned p engine) outcomes.Idle (injected None)

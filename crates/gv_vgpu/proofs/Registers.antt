@@ -4,7 +4,6 @@ use Rattle.gv_element.specs.Works.{Held, HasNoPage, Works, left_of}
 use Rattle.gv_entry.specs.Ranges.{InParts}
 use Rattle.gv_entry.specs.SameTables.{has}
 use Rattle.gv_gpu.specs.Device.{Device}
-use Rattle.gv_gpu.specs.Part.{outside}
 use Rattle.gv_gtt.specs.Gtt.{frames_of, gtt_part, nodes_in, number_of, over, ranges_of, roots_in}
 use Rattle.gv_gtt.specs.Standing.{Translates}
 use Rattle.gv_mmio.specs.Mmio.{SameGuest, behind, ports_at}

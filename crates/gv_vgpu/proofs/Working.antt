@@ -13,7 +13,7 @@ use Rattle.gv_sring.specs.Window.{page_at}
 use Rattle.gv_turn.specs.Owned.{OwnsLeft}
 use Rattle.gv_turn.specs.Work.{AtWork}
 use Rattle.gv_turn.proofs.Steps.{step_is_turn}
-use Rattle.gv_vgpu.specs.Laws.{StepIsItsTurn}
+use Rattle.gv_vgpu.specs.Laws.{ElementsAtWorkStand, StepIsItsTurn}
 use Rattle.gv_vgpu.specs.Vgpu.{engine_at, general_in, element_in, private_of, working_in}
 use Rattle.gv_vgpu.specs.Standing.{Holds, StandsOn, StandsAtWork}
 use Rattle.gv_vgpu.specs.declared.vgpu.Vgpu.{Vgpu}
@@ -53,6 +53,10 @@ at-work d v here engine x holds own is stands =
       left = subst (λ e. IsLeft e (left_of d (number_of v.gtt) engine true)) stands.works.window.engine_is stands.works.runs.form;
       owned = subst (λ ranges. OwnsLeft ranges (left_of d (number_of v.gtt) engine true)) (sym holds.ranges) stands.owned;
     }
+
+pub elements_at_work_stand : ElementsAtWorkStand
+elements_at_work_stand d v here engine x holds below own is =
+    let stands : StandsAtWork d v engine true x = standing d v here engine x holds below own is in (stands.works.runs.layout, at-work d v here engine x holds own is stands)
 
 pub step_is_its_turn : StepIsItsTurn
 step_is_its_turn d v here engine x holds below own is =

@@ -10,7 +10,7 @@ use Rattle.gv_sggtt.specs.Mirror.{NamesFrame}
 use Rattle.gv_sggtt.specs.Pins.{table_pins}
 use Rattle.gv_shape.specs.Shadows.{AreLiveTables, Reaches}
 use Rattle.gv_sppgtt.specs.Laws.{ChainsMappings, CountsNamings}
-use Rattle.gv_vgpu.specs.Vgpu.{engine_at, private_of}
+use Rattle.gv_vgpu.specs.Vgpu.{engine_at, pins_of, private_of}
 use Rattle.gv_vgpu.specs.Standing.{Holds}
 use Rattle.gv_vgpu.specs.declared.vgpu.Vgpu.{Vgpu}
 
@@ -24,7 +24,7 @@ pub record FollowsTables (d : Device) (v : Vgpu) (p : PrivateDevice) : Type 0 wh
   pub tables : AreLiveTables p.memory p.roots (nodes_in v.gtt)
   pub counts : CountsNamings d (frames_of v.gtt) v.gtt.tables
   pub chains : ChainsMappings d (frames_of v.gtt) v.gtt.tables
-  pub pins : (frame : ℕ) → frame < length p.memory → slice_index v.gtt.memory.pins frame ≡ table_pins v.gtt.table frame + leaves_of d v.gtt frame
+  pub pins : (frame : ℕ) → frame < length p.memory → slice_index (pins_of v.gtt) frame ≡ table_pins v.gtt.table frame + leaves_of d v.gtt frame
 
 abbrev pub TablesAreFollowed : Type 0
 TablesAreFollowed = (d : Device) (v : Vgpu) (here : ℕ → Bool) → Holds d v here → FollowsTables d v (private_of d v here)

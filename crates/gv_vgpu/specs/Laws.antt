@@ -7,12 +7,18 @@ use Rattle.gv_gtt.specs.Gtt.{frames_of, number_of, nodes_in, own_pages, ranges_o
 use Rattle.gv_private.specs.Turn.{turned}
 use Rattle.gv_scan.specs.Layout.{Layout}
 use Rattle.gv_sring.specs.Window.{page_at}
-use Rattle.gv_turn.specs.Work.{StepIs}
+use Rattle.gv_turn.specs.Work.{AtWork, StepIs}
 use Rattle.gv_vgpu.specs.Changes.{own_live}
 use Rattle.gv_vgpu.specs.Copies.{NoneComes}
 use Rattle.gv_vgpu.specs.Vgpu.{engine_at, working_in, private_of}
 use Rattle.gv_vgpu.specs.Standing.{Holds, IsAway}
 use Rattle.gv_vgpu.specs.declared.vgpu.Vgpu.{Vgpu}
+
+-- The element of an engine that the guest owns is at work there: a step of that engine is a turn, and touches what is
+-- granted.
+abbrev pub ElementsAtWorkStand : Type 0
+ElementsAtWorkStand = (d : Device) (v : Vgpu) (here : ℕ → Bool) (engine : ℕ) (x : Held) → Holds d v here → engine < 4 → here engine ≡ true → (engine_at v engine).element ≡ Some x
+    → (layout : Layout) × AtWork d (frames_of v.gtt) (nodes_in v.gtt) (private_of d v here) engine (working_in d (number_of v.gtt) engine true x) (context_now d (number_of v.gtt) engine true) (page_at x.window 1) layout
 
 -- A step of an engine that the guest owns, and on which an element is at work, is a turn of the private device.
 abbrev pub StepIsItsTurn : Type 0

@@ -15,4 +15,5 @@ pub mod Access
 pub mod Plain
 pub mod Laws
 pub mod Followed
+pub mod Exact
 pub mod Seen

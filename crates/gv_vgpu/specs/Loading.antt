@@ -1,5 +1,5 @@
 -- A load, step by step.
-use Rattle.std.specs.Prelude.{◌≡◌, ℕ, ◌+◌, ◌==◌, ◌&&◌, Bool, Result, Err}
+use Rattle.std.specs.Prelude.{◌≡◌, ◌≢◌, ℕ, ◌≤◌, ◌+◌, ◌==◌, ◌&&◌, Bool, Result, Err}
 use Rattle.gv_ctx.specs.declared.descriptor.Descriptor.{Descriptor}
 use Rattle.gv_ctx.specs.declared.image.Image.{Image}
 use Rattle.gv_entry.specs.Ranges.{owns_page}
@@ -28,6 +28,12 @@ image_found p descriptor =
 abbrev pub Refuses : (ℕ → Bool) → Device → Device → Vgpu → Vgpu → Result PrivateDevice Reason → Refusal → Type 0
 Refuses here d e old new outcome (Fails reason) = (outcome ≡ Err reason) × MayFail here d e old new (memory_of d old.gtt)
 Refuses here d e old new outcome (Stopped stop) = Stops here d e old stop
+
+-- A context was loaded on this engine alone, and no general register written. The journal has room for the first step.
+pub record LoadsOn (engine : ℕ) (d e : Device) : Type 0 where
+  pub others : (k : ℕ) → k ≢ engine → e.loaded k ≡ d.loaded k
+  pub general : e.general ≡ d.general
+  pub room : 1 ≤ e.spare
 
 -- why a program isn't fetched
 abbrev pub NotFetched : PrivateDevice → ℕ → Image → Refusal → Type 0

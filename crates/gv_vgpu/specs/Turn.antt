@@ -1,6 +1,7 @@
 -- A turn of an engine, over the shared device.
-use Rattle.std.specs.Prelude.{◌≡◌, ℕ, ◌+◌, ◌*◌, ◌^◌, ◌<◌, ◌≤◌, List, slice_index, Bool, true, None, Some, ⊤, if◌then◌else◌}
-use Rattle.gv_element.specs.Works.{Held}
+use Rattle.std.specs.Prelude.{◌≡◌, ℕ, ◌+◌, ◌*◌, ◌^◌, ◌<◌, ◌≤◌, List, [], slice_index, Bool, true, Option, None, Some, if◌then◌else◌}
+use Rattle.gv_element.specs.Works.{Held, KeepsEngines}
+use Rattle.gv_gpu.specs.Change.{Ran as RanThen}
 use Rattle.gv_gpu.specs.Device.{Device, counted, with_faults, with_loaded, with_spare}
 use Rattle.gv_gpu.specs.Step.{physical_step}
 use Rattle.gv_gpu.specs.declared.step.Step.{Step}
@@ -11,7 +12,7 @@ use Rattle.gv_private.specs.Device.{PrivateDevice, front_context, Written, quiet
 use Rattle.gv_private.specs.Status.{bit_raised}
 use Rattle.gv_private.specs.Turn.{finished}
 use Rattle.gv_types.specs.declared.reply.Outcome.{Outcome}
-use Rattle.gv_types.specs.declared.reply.Outcome.TheVariants.{Ran, Waited}
+use Rattle.gv_types.specs.declared.reply.Outcome.TheVariants.{Ran, Waited, Ended, Loaded, Failed, Idle}
 use Rattle.gv_types.specs.declared.reply.Stop.{Stop}
 use Rattle.gv_types.specs.declared.reply.Stop.TheVariants.{DeviceFault, OutOfMemory}
 use Rattle.gv_vgpu.specs.Changes.{Keeps, Makes}
@@ -66,12 +67,39 @@ pub record Unmade (d e : Device) (stop : Stop) : Type 0 where
   pub cause : stop ≡ DeviceFault → counted d.faults ≤ e.faults
   pub memory : stop ≡ OutOfMemory → e.faults ≡ d.faults
 
--- The device made one step of an engine, with as much room in its journal as was made before, and did nothing else.
-abbrev pub IsOneStep : Device → Device → ℕ → Type 0
-IsOneStep d e engine = (room : ℕ) × (e ≡ (physical_step (with_spare d room) engine).after)
+-- ---- a turn is one step
 
--- a turn on which a command ran, or waited, is one step of the device
-abbrev pub StepsOnce : Device → Device → ℕ → Outcome → Type 0
-StepsOnce d e engine Ran = IsOneStep d e engine
-StepsOnce d e engine Waited = IsOneStep d e engine
-StepsOnce d e engine outcome = ⊤
+-- The device made one step of the engine, with this answer, and behind it only what is the guest's own changed: from the
+-- device that the step left, the guest's device holds again, no command ran and nothing strayed.
+pub record StepsThen (here : ℕ → Bool) (d e : Device) (old new : Vgpu) (engine : ℕ) (answer : Step) : Type 0 where
+  pub stepped : Device
+  pub made : Made d stepped engine answer
+  pub keeps : Keeps here stepped e old new
+  pub none_ran : RanThen stepped e []
+
+-- On a turn of an element at work the device makes one step of its engine, with room in the journal. A turn on which a
+-- command ran, or waited, is that step and nothing else. Where the engine answered that the context ended, or that the
+-- command isn't listed, what follows is the completion, which changes no engine, or the failure, of the guest's device
+-- alone.
+abbrev pub StepsAtWork : (ℕ → Bool) → Device → Device → Vgpu → Vgpu → ℕ → Outcome → Type 0
+StepsAtWork here d e old new engine Ran = (command : List ℕ) × (raise : ℕ) × Made d e engine (steps.Ran command raise)
+StepsAtWork here d e old new engine Waited = Made d e engine steps.Waits
+StepsAtWork here d e old new engine Ended = (ended : StepsThen here d e old new engine steps.Ended) × KeepsEngines ended.stepped e
+StepsAtWork here d e old new engine Failed = StepsThen here d e old new engine steps.Unlisted
+StepsAtWork here d e old new engine outcome = ⊥
+
+-- Without an element at work it makes none: an idle turn leaves the device as it was, and where an element is loaded, or
+-- refused, no command ran and nothing strayed.
+abbrev pub StepsNone : Device → Device → Outcome → Type 0
+StepsNone d e Idle = e ≡ d
+StepsNone d e Loaded = RanThen d e []
+StepsNone d e Failed = RanThen d e []
+StepsNone d e outcome = ⊥
+
+abbrev pub StepsOnceBy : (ℕ → Bool) → Device → Device → Vgpu → Vgpu → ℕ → Outcome → Option Held → Type 0
+StepsOnceBy here d e old new engine outcome (Some x) = StepsAtWork here d e old new engine outcome
+StepsOnceBy here d e old new engine outcome None = StepsNone d e outcome
+
+-- A turn is one step of the device at the most, and exactly one where an element is at work.
+abbrev pub StepsOnce : (ℕ → Bool) → Device → Device → Vgpu → Vgpu → ℕ → Outcome → Type 0
+StepsOnce here d e old new engine outcome = StepsOnceBy here d e old new engine outcome (engine_at old engine).element

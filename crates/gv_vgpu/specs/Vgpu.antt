@@ -3,6 +3,7 @@ use Rattle.std.specs.Prelude.{ℕ, [], Bool, List, Option, None, Some, if◌then
 use Rattle.gv_element.specs.Works.{Held, left_of}
 use Rattle.gv_gpu.specs.Device.{Device}
 use Rattle.gv_gtt.specs.Gtt.{over, number_of, ranges_of}
+use Rattle.gv_gtt.specs.declared.gtt.Gtt.{Gtt}
 use Rattle.gv_mmio.specs.Mmio.{behind}
 use Rattle.gv_private.specs.Device.{PrivateDevice, Working, Engine as PrivateEngine, reset_engine, new_device}
 use Rattle.gv_vgpu.specs.declared.engine.Engine.{Engine}
@@ -41,3 +42,9 @@ engines_of d v here = record (new_device 0 0 (ranges_of v.gtt)) { failsafe = v.f
 -- That, over the guest's memory and tables, and behind its registers, interrupts and ports.
 abbrev pub private_of : Device → Vgpu → (ℕ → Bool) → PrivateDevice
 private_of d v here = behind (over (engines_of d v here) d v.gtt) v.mmio
+
+-- ---- pins
+
+-- how often each frame of the guest's memory is pinned
+abbrev pub pins_of : Gtt → List ℕ
+pins_of g = g.memory.pins

@@ -1,6 +1,7 @@
 ghost use Rattle.std.specs.Prelude.{◌≡◌, ◌<◌, length, IfOk, IfErr, IsErrOf, OnOk, OnErr};
 ghost use Rattle.gv_types.specs.declared.reply.Answer.{Answer};
 ghost use Rattle.gv_types.specs.declared.reply.Stop.TheVariants.{DeviceFault};
+ghost use Rattle.gv_element.specs.Works.{KeepsEngines};
 ghost use Rattle.gv_gpu.specs.Change.{ChangesOnly};
 ghost use Rattle.gv_gpu.specs.Part.{frames_part};
 ghost use Rattle.gv_gtt.specs.Gtt.{frames_of, number_of};
@@ -52,6 +53,7 @@ impl Vgpu {
         ensures memory { OnErr result (result ≡ Err Stop.OutOfMemory) }
         ensures lacks { OnErr result (move_answer (private_of (G.state gpu.old) self.old (is_here here)) frame ≡ Answer.Moved) }
         ensures part { OnOk result (ChangesOnly (frames_part (number_of self.old.gtt)) 512 (G.state gpu.old) (G.state gpu.new)) }
+        ensures unsubmitted { KeepsEngines (G.state gpu.old) (G.state gpu.new) }
     {
         match self.gtt.move_page(gpu, frame) {
             Ok(PageMove::Moved) => Ok(Answer::Moved),
@@ -62,7 +64,8 @@ impl Vgpu {
 
     /// Does a read, a write or a move of the guest's, by the engines that it owns, and replies what the guest's private
     /// device does. `DeviceFault` comes only at a write that resets engines and at one by which the guest fails, and
-    /// `OutOfMemory` only at a move that isn't kept and at a write of a live table or of notify. A read changes nothing. A move, and a
+    /// `OutOfMemory` only at a move that isn't kept and at a write of a live table or of notify; no engine's state changed
+    /// then. A read changes nothing. A move, and a
     /// write but of a live table, a general register, notify or engine reset, changes the guest's frames and owned
     /// entries alone.
     pub fn access<G: Gpu>(
@@ -78,6 +81,7 @@ impl Vgpu {
         ensures stops { IfErr result (λ stop. Stops (is_here here) (G.state gpu.old) (G.state gpu.new) self.old stop) }
         ensures faults { IsErrOf result Stop.DeviceFault → AccessMayFault (private_of (G.state gpu.old) self.old (is_here here)) event.now }
         ensures lacks { IsErrOf result Stop.OutOfMemory → AccessMayLackMemory (private_of (G.state gpu.old) self.old (is_here here)) event.now }
+        ensures unsubmitted { IsErrOf result Stop.OutOfMemory → KeepsEngines (G.state gpu.old) (G.state gpu.new) }
         ensures moves { IfOk result (λ reply. AccessMoves (G.state gpu.new) self.old self.new event.now reply.answer) }
         ensures part { OnOk result (IsPlain (private_of (G.state gpu.old) self.old (is_here here)) event.now → ChangesAccess 512 (G.state gpu.old) (G.state gpu.new) self.old) }
         ensures reads { OnOk result (ReadsAlone (G.state gpu.old) (G.state gpu.new) self.old self.new event.now) }

@@ -1,4 +1,5 @@
 ghost use Rattle.std.specs.Prelude.{◌≡◌, ℕ, ◌+◌, ◌*◌, ◌%◌, ◌^◌, ◌<◌, Bool, None};
+ghost use Rattle.gv_element.specs.Works.{KeepsEngines};
 ghost use Rattle.gv_gpu.specs.Change.{ChangesOnly};
 ghost use Rattle.gv_gpu.specs.Device.{Device};
 ghost use Rattle.gv_gpu.specs.Part.{frames_part};
@@ -47,6 +48,7 @@ impl Vgpu {
         ensures device { private_of (G.state gpu.new) self.now (is_here here) ≡ global_written (private_of (G.state gpu.old) self.now (is_here here)) at value }
         ensures keeps { Keeps (is_here here) (G.state gpu.old) (G.state gpu.new) self.now self.now }
         ensures part { ChangesOnly (frames_part (number_of self.now.gtt)) 1 (G.state gpu.old) (G.state gpu.new) }
+        ensures engines { KeepsEngines (G.state gpu.old) (G.state gpu.new) }
     {
         self.gtt.write_dword(gpu, at, value);
     }

@@ -21,8 +21,8 @@ mod write;
 
 pub use engine::Engine;
 pub use laws::{
-    a_step_is_its_turn, devices_are_small, elements_are_loaded, other_guests_leave_it,
-    tables_are_followed,
+    a_step_is_its_turn, devices_are_small, elements_are_loaded, elements_at_work_stand,
+    grants_are_exact, other_guests_leave_it, tables_are_followed,
 };
 pub use notice::{Notice, Turned};
 pub use vgpu::Vgpu;

@@ -1,5 +1,6 @@
-ghost use Rattle.std.specs.Prelude.{◌≡◌, ◌≢◌, ℕ, ◌<◌, true, false, None, Some, Ok, Err, length, IfOk, IfErr, OnOk};
+ghost use Rattle.std.specs.Prelude.{◌≡◌, ◌≢◌, ℕ, ◌<◌, true, false, None, Some, Ok, Err, length, IfOk, IfErr, IsErrOf, OnOk, OnErr};
 ghost use Rattle.gv_ctx.specs.Image.{IsImage};
+ghost use Rattle.gv_element.specs.Works.{KeepsEngines};
 ghost use Rattle.gv_fetch.specs.Fetch.{fetched};
 ghost use Rattle.gv_entry.specs.SameTables.{has};
 ghost use Rattle.gv_gtt.specs.Gtt.{roots_in};
@@ -10,7 +11,7 @@ ghost use Rattle.gv_private.specs.Turn.{turned};
 ghost use Rattle.gv_scan.specs.Layout.{FitsWindow};
 ghost use Rattle.gv_scan.specs.Scan.{Scanned};
 ghost use Rattle.gv_vgpu.specs.Changes.{Keeps, MayLoad, Stops, Turns};
-ghost use Rattle.gv_vgpu.specs.Loading.{Refuses};
+ghost use Rattle.gv_vgpu.specs.Loading.{LoadsOn, Refuses};
 ghost use Rattle.gv_vgpu.specs.Vgpu.{engine_at, private_of};
 ghost use Rattle.gv_vgpu.specs.Owners.{is_here};
 ghost use Rattle.gv_vgpu.specs.Standing.{HasRoomToLoad, Holds};
@@ -52,6 +53,7 @@ impl Vgpu {
         ensures mmio { self.new.mmio ≡ self.old.mmio }
         ensures failsafe { self.new.failsafe ≡ self.old.failsafe }
         ensures engines { self.new.engines ≡ self.old.engines }
+        ensures unsubmitted { KeepsEngines (G.state gpu.old) (G.state gpu.new) }
     {
         match self.gtt.create_root(gpu, root) {
             Ok(()) => Ok(()),
@@ -96,6 +98,8 @@ impl Vgpu {
         ensures device { OnOk result (fetched_into (private_of (G.state gpu.old) self.old (is_here here)) engine.0 image.now ≡ Ok (private_of (G.state gpu.new) self.new (is_here here))) }
         ensures keeps { OnOk result (MayLoad (is_here here) (G.state gpu.old) (G.state gpu.new) self.old self.new) }
         ensures stops { IfErr result (λ stop. Stops (is_here here) (G.state gpu.old) (G.state gpu.new) self.old stop) }
+        ensures unsubmitted { OnErr result (KeepsEngines (G.state gpu.old) (G.state gpu.new)) }
+        ensures ready { OnOk result (LoadsOn engine.0 (G.state gpu.old) (G.state gpu.new)) }
     {
         let root = image.root as u32;
         let shadow_root = self.gtt.shadow_root(root);
@@ -131,6 +135,8 @@ impl Vgpu {
         ensures device { OnOk result (fetched_into (private_of (G.state gpu.old) self.old (is_here here)) engine.0 image.now ≡ Ok (private_of (G.state gpu.new) self.new (is_here here))) }
         ensures keeps { OnOk result (MayLoad (is_here here) (G.state gpu.old) (G.state gpu.new) self.old self.new) }
         ensures refuses { IfErr result (Refuses (is_here here) (G.state gpu.old) (G.state gpu.new) self.old self.new (fetched_into (private_of (G.state gpu.old) self.old (is_here here)) engine.0 image.now)) }
+        ensures unsubmitted { OnErr result (KeepsEngines (G.state gpu.old) (G.state gpu.new)) }
+        ensures ready { OnOk result (LoadsOn engine.0 (G.state gpu.old) (G.state gpu.new)) }
     {
         let program = match fetch(alloc, &self.gtt, gpu, engine, image) {
             Ok(program) => program,
@@ -161,6 +167,8 @@ impl Vgpu {
         ensures device { OnOk result (loaded (private_of (G.state gpu.old) self.old (is_here here)) engine.0 descriptor ≡ Ok (private_of (G.state gpu.new) self.new (is_here here))) }
         ensures keeps { OnOk result (MayLoad (is_here here) (G.state gpu.old) (G.state gpu.new) self.old self.new) }
         ensures refuses { IfErr result (Refuses (is_here here) (G.state gpu.old) (G.state gpu.new) self.old self.new (loaded (private_of (G.state gpu.old) self.old (is_here here)) engine.0 descriptor)) }
+        ensures unsubmitted { OnErr result (KeepsEngines (G.state gpu.old) (G.state gpu.new)) }
+        ensures ready { OnOk result (LoadsOn engine.0 (G.state gpu.old) (G.state gpu.new)) }
     {
         let image = match image(&self.gtt, gpu, Descriptor::of(descriptor)) {
             Ok(image) => image,
@@ -174,7 +182,8 @@ impl Vgpu {
 
     /// Loads the front element of an engine's running list, on an engine that the guest owns and that has no element at
     /// work. All memory is taken before the context is submitted, the first journal entry's too. The outcome is
-    /// `Loaded`, or `Failed`, and the guest is then in failsafe.
+    /// `Loaded`, and every other engine is as it was, or `Failed`, and the guest is then in failsafe. After want of memory
+    /// no engine's state changed.
     pub fn load<G: Gpu>(
         &mut self,
         alloc: Global,
@@ -191,6 +200,8 @@ impl Vgpu {
         requires awake { self.old.failsafe ≡ false }
         ensures turns { IfOk result (λ t. Turns (is_here here) (G.state gpu.old) (G.state gpu.new) self.old self.new (turned (private_of (G.state gpu.old) self.old (is_here here)) engine.0) t.outcome t.notice) }
         ensures stops { IfErr result (λ stop. Stops (is_here here) (G.state gpu.old) (G.state gpu.new) self.old stop) }
+        ensures unsubmitted { IsErrOf result Stop.OutOfMemory → KeepsEngines (G.state gpu.old) (G.state gpu.new) }
+        ensures ready { IfOk result (λ t. t.outcome ≡ Outcome.Loaded → LoadsOn engine.0 (G.state gpu.old) (G.state gpu.new)) }
     {
         let Some(descriptor) = self.mmio.current(engine) else {
             unreachable!();

@@ -1,5 +1,6 @@
 ghost use Rattle.std.specs.Prelude.{◌≡◌, ◌+◌, ◌/◌, ◌%◌, ◌≤◌, false, true, None, IfOk, IfErr, IsErrOf, IsOk, OnOk};
 ghost use Rattle.gv_types.specs.Memory.{bytes_of, all_ones, memory_write};
+ghost use Rattle.gv_element.specs.Works.{KeepsEngines};
 ghost use Rattle.gv_entry.specs.Tables.{has_bad_entry, is_guarded};
 ghost use Rattle.gv_gtt.specs.Changes.{HaveSameLive};
 ghost use Rattle.gv_gtt.specs.Gtt.{levels_of, memory_of, roots_in};
@@ -39,6 +40,7 @@ impl Vgpu {
         ensures pokes { IfOk result (λ notice. notice.failsafe ≡ None
             → HaveSameLive (memory_of (G.state gpu.old) self.old.gtt) (memory_of (G.state gpu.new) self.new.gtt) (roots_in self.old.gtt)
             → (G.state gpu.new).pokes ≤ (G.state gpu.old).pokes + (1 + levels_of (memory_of (G.state gpu.old) self.old.gtt) (roots_in self.old.gtt) (at / 4096))) }
+        ensures unsubmitted { IsErrOf result Stop.OutOfMemory → KeepsEngines (G.state gpu.old) (G.state gpu.new) }
     {
         match self.gtt.write(gpu, at, width, value) {
             Ok(()) => Ok(Notice::none()),

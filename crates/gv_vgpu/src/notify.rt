@@ -1,4 +1,5 @@
 ghost use Rattle.std.specs.Prelude.{◌≡◌, ℕ, ◌<◌, Bool, IfOk, IfErr, IsErrOf, OnOk, OnErr, IsSome};
+ghost use Rattle.gv_element.specs.Works.{KeepsEngines};
 ghost use Rattle.gv_gpu.specs.Device.{Device};
 ghost use Rattle.gv_private.specs.Roots.{is_at_work, notify_written, root_created, root_destroyed, works_over};
 ghost use Rattle.gv_vgpu.specs.Changes.{Keeps, Makes, Stops};
@@ -46,6 +47,7 @@ impl Vgpu {
         ensures created { IfOk result (λ notice. Makes (is_here here) (G.state gpu.old) (G.state gpu.new) self.old self.new (root_created (private_of (G.state gpu.old) self.old (is_here here)) root) notice) }
         ensures stops { IfErr result (λ stop. Stops (is_here here) (G.state gpu.old) (G.state gpu.new) self.old stop) }
         ensures listed { IsErrOf result Stop.DeviceFault → IsSome (root_created (private_of (G.state gpu.old) self.old (is_here here)) root).reason }
+        ensures unsubmitted { IsErrOf result Stop.OutOfMemory → KeepsEngines (G.state gpu.old) (G.state gpu.new) }
     {
         match self.gtt.create_root(gpu, root) {
             Ok(()) => Ok(Notice::none()),
@@ -61,6 +63,7 @@ impl Vgpu {
         ensures keeps { OnOk result (Keeps (is_here here) (G.state gpu.old) (G.state gpu.new) self.old self.new) }
         ensures stops { IfErr result (λ stop. Stops (is_here here) (G.state gpu.old) (G.state gpu.new) self.old stop) }
         ensures memory { OnErr result (result ≡ Err Stop.OutOfMemory) }
+        ensures unsubmitted { KeepsEngines (G.state gpu.old) (G.state gpu.new) }
     {
         if root < u64::from(self.gtt.frames()) && !self.is_at_work(root) {
             match self.gtt.destroy_root(gpu, root as u32) {
@@ -83,6 +86,7 @@ impl Vgpu {
         ensures notified { IfOk result (λ notice. Makes (is_here here) (G.state gpu.old) (G.state gpu.new) self.old self.new (notify_written (private_of (G.state gpu.old) self.old (is_here here)) value) notice) }
         ensures stops { IfErr result (λ stop. Stops (is_here here) (G.state gpu.old) (G.state gpu.new) self.old stop) }
         ensures listed { IsErrOf result Stop.DeviceFault → IsSome (notify_written (private_of (G.state gpu.old) self.old (is_here here)) value).reason }
+        ensures unsubmitted { IsErrOf result Stop.OutOfMemory → KeepsEngines (G.state gpu.old) (G.state gpu.new) }
     {
         let root = self.mmio.root();
         match value {

@@ -1,6 +1,7 @@
 ghost use Rattle.std.specs.Prelude.{◌≡◌, ◌%◌, ◌<◌, ◌≤◌, ◌⊎◌, false, IfOk, IfErr, IsErrOf, IsSome, OnOk};
 ghost use Rattle.gv_types.specs.Memory.{bytes_of, all_ones};
 ghost use Rattle.gv_types.specs.Places.{address_limit};
+ghost use Rattle.gv_element.specs.Works.{KeepsEngines};
 ghost use Rattle.gv_private.specs.Access.{dwords_written, range_written, table_at, value_written};
 ghost use Rattle.gv_private.specs.Registers.{dword_written};
 ghost use Rattle.gv_vgpu.specs.Access.{WritePokes};
@@ -36,6 +37,7 @@ impl Vgpu {
         ensures stops { IfErr result (λ stop. Stops (is_here here) (G.state gpu.old) (G.state gpu.new) self.old stop) }
         ensures faults { IsErrOf result Stop.DeviceFault → MayFaultAt (private_of (G.state gpu.old) self.old (is_here here)) offset value }
         ensures lacks { IsErrOf result Stop.OutOfMemory → MayLackMemoryAt offset }
+        ensures unsubmitted { IsErrOf result Stop.OutOfMemory → KeepsEngines (G.state gpu.old) (G.state gpu.new) }
         ensures part { OnOk result (IsPlainTarget (target_at offset) → ChangesAccess 3 (G.state gpu.old) (G.state gpu.new) self.old) }
     {
         match self.mmio.write(offset, value) {
@@ -71,6 +73,7 @@ impl Vgpu {
         ensures stops { IfErr result (λ stop. Stops (is_here here) (G.state gpu.old) (G.state gpu.new) self.old stop) }
         ensures faults { IsErrOf result Stop.DeviceFault → ReachesReset Width.Eight offset ⊎ IsSome (pair_written (private_of (G.state gpu.old) self.old (is_here here)) offset low high).reason }
         ensures lacks { IsErrOf result Stop.OutOfMemory → ReachesNotify Width.Eight offset }
+        ensures unsubmitted { IsErrOf result Stop.OutOfMemory → KeepsEngines (G.state gpu.old) (G.state gpu.new) }
         ensures part { OnOk result (IsPlainAt Width.Eight offset → ChangesAccess 6 (G.state gpu.old) (G.state gpu.new) self.old) }
     {
         let first = self.write_dword(gpu, here, offset, low)?;
@@ -98,6 +101,7 @@ impl Vgpu {
         ensures stops { IfErr result (λ stop. Stops (is_here here) (G.state gpu.old) (G.state gpu.new) self.old stop) }
         ensures faults { IsErrOf result Stop.DeviceFault → MayFault (private_of (G.state gpu.old) self.old (is_here here)) Place.Registers width offset value }
         ensures lacks { IsErrOf result Stop.OutOfMemory → MayLackMemory (private_of (G.state gpu.old) self.old (is_here here)) Place.Registers width offset }
+        ensures unsubmitted { IsErrOf result Stop.OutOfMemory → KeepsEngines (G.state gpu.old) (G.state gpu.new) }
         ensures part { OnOk result (IsPlainAt width offset → ChangesAccess 6 (G.state gpu.old) (G.state gpu.new) self.old) }
     {
         match width {
@@ -131,6 +135,7 @@ impl Vgpu {
         ensures stops { IfErr result (λ stop. Stops (is_here here) (G.state gpu.old) (G.state gpu.new) self.old stop) }
         ensures faults { IsErrOf result Stop.DeviceFault → MayFault (private_of (G.state gpu.old) self.old (is_here here)) Place.Registers width offset value }
         ensures lacks { IsErrOf result Stop.OutOfMemory → MayLackMemory (private_of (G.state gpu.old) self.old (is_here here)) Place.Registers width offset }
+        ensures unsubmitted { IsErrOf result Stop.OutOfMemory → KeepsEngines (G.state gpu.old) (G.state gpu.new) }
         ensures part { OnOk result (IsPlainWrite (private_of (G.state gpu.old) self.old (is_here here)) Place.Registers width offset → ChangesAccess 6 (G.state gpu.old) (G.state gpu.new) self.old) }
     {
         if offset < TABLE_AT {
@@ -160,6 +165,7 @@ impl Vgpu {
         ensures stops { IfErr result (λ stop. Stops (is_here here) (G.state gpu.old) (G.state gpu.new) self.old stop) }
         ensures faults { IsErrOf result Stop.DeviceFault → MayFault (private_of (G.state gpu.old) self.old (is_here here)) place width at value }
         ensures lacks { IsErrOf result Stop.OutOfMemory → MayLackMemory (private_of (G.state gpu.old) self.old (is_here here)) place width at }
+        ensures unsubmitted { IsErrOf result Stop.OutOfMemory → KeepsEngines (G.state gpu.old) (G.state gpu.new) }
         ensures part { OnOk result (IsPlainWrite (private_of (G.state gpu.old) self.old (is_here here)) place width at → ChangesAccess 6 (G.state gpu.old) (G.state gpu.new) self.old) }
         ensures pokes { IfOk result (λ notice. WritePokes (G.state gpu.old) (G.state gpu.new) (private_of (G.state gpu.old) self.old (is_here here)) (private_of (G.state gpu.new) self.new (is_here here)) place at notice.failsafe) }
     {

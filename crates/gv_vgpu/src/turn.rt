@@ -1,10 +1,12 @@
 ghost use Rattle.std.specs.Prelude.{◌≡◌, ◌≢◌, ℕ, ◌<◌, Bool, true, false, IfOk, IfErr, IsErrOf, IsSome, OnErr, length, slice_index};
 ghost use Rattle.gv_csb.specs.Status.{in_order};
+ghost use Rattle.gv_element.specs.Works.{KeepsEngines};
 ghost use Rattle.gv_gpu.specs.Device.{Device};
 ghost use Rattle.gv_mmio.specs.Mmio.{ports_at};
 ghost use Rattle.gv_private.specs.Status.{command_raised, events_given};
 ghost use Rattle.gv_private.specs.Turn.{turned};
 ghost use Rattle.gv_vgpu.specs.Changes.{Keeps, Makes, Stops, Turns, injected};
+ghost use Rattle.gv_vgpu.specs.Loading.{LoadsOn};
 ghost use Rattle.gv_vgpu.specs.Vgpu.{engine_at, private_of};
 ghost use Rattle.gv_vgpu.specs.Owners.{is_here};
 ghost use Rattle.gv_vgpu.specs.Standing.{HasRoomToLoad, Holds};
@@ -48,6 +50,7 @@ fn one_step<G: Gpu>(gpu: &mut G, engine: EngineId) -> Result<Step, Stop>
     ensures small { IfOk result HasSmallDwords }
     ensures stops { IfErr result (λ stop. Unmade (G.state gpu.old) (G.state gpu.new) stop) }
     ensures spare { IsErrOf result Stop.OutOfMemory → (G.state gpu.old).spare ≡ 0 }
+    ensures unmade { IsErrOf result Stop.OutOfMemory → G.state gpu.new ≡ G.state gpu.old }
 {
     match gpu.reserve(1) {
         Ok(()) => {
@@ -71,7 +74,8 @@ impl Vgpu {
         requires holds { Holds (G.state gpu.old) self.old (is_here here) }
         requires engine { engine.0 < 4 }
         requires awake { self.old.failsafe ≡ false }
-        ensures { Makes (is_here here) (G.state gpu.old) (G.state gpu.new) self.old self.new (events_given (private_of (G.state gpu.old) self.old (is_here here)) engine.0 (in_order events)) (injected result) }
+        ensures given { Makes (is_here here) (G.state gpu.old) (G.state gpu.new) self.old self.new (events_given (private_of (G.state gpu.old) self.old (is_here here)) engine.0 (in_order events)) (injected result) }
+        ensures engines { KeepsEngines (G.state gpu.old) (G.state gpu.new) }
     {
         let first = self.give_event(gpu, here, engine, events.first);
         match events.second {
@@ -87,7 +91,8 @@ impl Vgpu {
     fn take_ended<G: Gpu>(&mut self, gpu: &mut G, here: [bool; 4], engine: EngineId) -> u32
         requires ended { HasEnded (G.state gpu.old) self.old (is_here here) engine.0 }
         requires engine { engine.0 < 4 }
-        ensures { (ended : HasEnded (G.state gpu.old) self.old (is_here here) engine.0) → EndOf (is_here here) engine.0 ended.before (G.state gpu.new) self.old self.new ended.element result }
+        ensures ends { (ended : HasEnded (G.state gpu.old) self.old (is_here here) engine.0) → EndOf (is_here here) engine.0 ended.before (G.state gpu.new) self.old self.new ended.element result }
+        ensures engines { KeepsEngines (G.state gpu.old) (G.state gpu.new) }
     {
         match self.engines[engine.0 as usize].element.take() {
             Some(element) => {
@@ -106,6 +111,7 @@ impl Vgpu {
         requires list { 0 < length (ports_at self.now.mmio engine.0).slots.running }
         ensures device { private_of (G.state gpu.new) self.now (is_here here) ≡ front_tail_written (private_of (G.state gpu.old) self.now (is_here here)) engine.0 tail }
         ensures keeps { Keeps (is_here here) (G.state gpu.old) (G.state gpu.new) self.now self.now }
+        ensures engines { KeepsEngines (G.state gpu.old) (G.state gpu.new) }
     {
         if let Some(descriptor) = self.mmio.current(engine) {
             let image = u64::from(Descriptor::of(descriptor).page) + 1;
@@ -116,13 +122,14 @@ impl Vgpu {
     }
 
     /// Finishes an element whose context the engine took off: the tail that its image had at the load is written to the
-    /// image, the element is gone from its list, and status events follow. It can't fail. Where an interrupt is
-    /// injected, it answers IIR of its group.
+    /// image, the element is gone from its list, and status events follow. No engine's state changes. It can't fail. Where
+    /// an interrupt is injected, it answers IIR of its group.
     pub fn finish<G: Gpu>(&mut self, gpu: &mut G, here: [bool; 4], engine: EngineId) -> Option<u32>
         requires ended { HasEnded (G.state gpu.old) self.old (is_here here) engine.0 }
         requires engine { engine.0 < 4 }
-        ensures { (ended : HasEnded (G.state gpu.old) self.old (is_here here) engine.0)
+        ensures completes { (ended : HasEnded (G.state gpu.old) self.old (is_here here) engine.0)
             → Completes (is_here here) engine.0 ended.before (G.state gpu.new) self.old self.new ended.element (injected result) }
+        ensures engines { KeepsEngines (G.state gpu.old) (G.state gpu.new) }
     {
         let tail = self.take_ended(gpu, here, engine);
         self.write_tail(gpu, here, engine, tail);
@@ -166,8 +173,9 @@ impl Vgpu {
         requires work { IsSome (engine_at self.old engine.0).element }
         ensures turns { IfOk result (λ t. Turns (is_here here) (G.state gpu.old) (G.state gpu.new) self.old self.new (turned (private_of (G.state gpu.old) self.old (is_here here)) engine.0) t.outcome t.notice) }
         ensures stops { IfErr result (λ stop. Stops (is_here here) (G.state gpu.old) (G.state gpu.new) self.old stop) }
-        ensures once { IfOk result (λ t. StepsOnce (G.state gpu.old) (G.state gpu.new) engine.0 t.outcome) }
+        ensures once { IfOk result (λ t. StepsOnce (is_here here) (G.state gpu.old) (G.state gpu.new) self.old self.new engine.0 t.outcome) }
         ensures spare { IsErrOf result Stop.OutOfMemory → (G.state gpu.old).spare ≡ 0 }
+        ensures unmade { IsErrOf result Stop.OutOfMemory → G.state gpu.new ≡ G.state gpu.old }
     {
         match one_step(gpu, engine) {
             Ok(Step::Ran { raise, .. }) => Ok(Turned {
@@ -195,7 +203,9 @@ impl Vgpu {
     }
 
     /// A turn of an engine that the guest owns. An element at work makes one step; else the next is loaded. A turn that is
-    /// idle doesn't fail, and a step takes no memory where the journal has room for an entry.
+    /// idle doesn't fail, and a step takes no memory where the journal has room for an entry, as it has behind a load.
+    /// After want of memory no context was loaded or taken off, and no general register written; with an element at work
+    /// the device is as before.
     pub fn turn<G: Gpu>(
         &mut self,
         alloc: Global,
@@ -209,9 +219,12 @@ impl Vgpu {
         requires own { is_here here engine.0 ≡ true }
         ensures turns { IfOk result (λ t. Turns (is_here here) (G.state gpu.old) (G.state gpu.new) self.old self.new (turned (private_of (G.state gpu.old) self.old (is_here here)) engine.0) t.outcome t.notice) }
         ensures stops { IfErr result (λ stop. Stops (is_here here) (G.state gpu.old) (G.state gpu.new) self.old stop) }
-        ensures once { IfOk result (λ t. StepsOnce (G.state gpu.old) (G.state gpu.new) engine.0 t.outcome) }
+        ensures once { IfOk result (λ t. StepsOnce (is_here here) (G.state gpu.old) (G.state gpu.new) self.old self.new engine.0 t.outcome) }
         ensures busy { OnErr result ((turned (private_of (G.state gpu.old) self.old (is_here here)) engine.0).outcome ≢ Outcome.Idle) }
         ensures spare { IsErrOf result Stop.OutOfMemory → IsSome (engine_at self.old engine.0).element → (G.state gpu.old).spare ≡ 0 }
+        ensures unmade { IsErrOf result Stop.OutOfMemory → IsSome (engine_at self.old engine.0).element → G.state gpu.new ≡ G.state gpu.old }
+        ensures unsubmitted { IsErrOf result Stop.OutOfMemory → KeepsEngines (G.state gpu.old) (G.state gpu.new) }
+        ensures ready { IfOk result (λ t. t.outcome ≡ Outcome.Loaded → LoadsOn engine.0 (G.state gpu.old) (G.state gpu.new)) }
     {
         if self.failsafe {
             return Ok(Turned {

@@ -33,7 +33,7 @@ impl Vgpu {
     ghost use Rattle.gv_private.specs.Work.{has_work};
     ghost use Rattle.gv_vgpu.specs.Changes.{own_live};
     ghost use Rattle.gv_vgpu.specs.Owners.{is_here};
-    ghost use Rattle.gv_vgpu.specs.Vgpu.{private_of};
+    ghost use Rattle.gv_vgpu.specs.Vgpu.{pins_of, private_of};
     ghost use Rattle.gv_vgpu.specs.Standing.{Holds};
 
     /// A guest's device as after a function reset, with so many zero frames, 1 to 16,384, and these ranges, whose
@@ -109,9 +109,10 @@ impl Vgpu {
         self.gtt.frames()
     }
 
-    /// The guest's frames, with the host page of each.
+    /// The guest's frames, with the host page of each, and how often each is pinned.
     pub fn memory(&self) -> &Memory
-        ensures { result.now.frames ≡ frames_of self.now.gtt }
+        ensures frames { result.now.frames ≡ frames_of self.now.gtt }
+        ensures pins { result.now.pins ≡ pins_of self.now.gtt }
     {
         self.gtt.memory()
     }

@@ -14,3 +14,8 @@ returns-in_err-turned-in-Turn-clause-lacks g c =
     let p = err_from_is_err_and c.from_residual.result c.from_residual.ensures.1 in rw (p.1, p.2)
     (λ lack. subst (λ event. DeviceMayLackMemory d (private_of d c.args.device.now (is_here c.args.here)) event) (sym c.in-Turn.is)
     (turn-lacks d c.args.device.now (is_here c.args.here) c.in-Turn.engine c.in_err-turned-in-Turn.ensures.busy (c.in_err-turned-in-Turn.ensures.spare (err-again c.in_err-turned-in-Turn.field-0.0 OutOfMemory lack))))
+
+pub returns-in_err-turned-in-Turn-clause-unsubmitted : goal.returns-in_err-turned-in-Turn-clause-unsubmitted
+returns-in_err-turned-in-Turn-clause-unsubmitted g c =
+    let p = err_from_is_err_and c.from_residual.result c.from_residual.ensures.1 in rw (p.1, p.2)
+    (λ lack. c.in_err-turned-in-Turn.ensures.unsubmitted (err-again c.in_err-turned-in-Turn.field-0.0 OutOfMemory lack))

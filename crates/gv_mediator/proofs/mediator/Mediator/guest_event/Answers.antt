@@ -4,12 +4,12 @@ use Rattle.gv_gtt.specs.Gtt.{number_of}
 use Rattle.gv_vgpu.specs.Standing.{Holds}
 use Rattle.gv_vgpu.specs.Access.{AccessPokes, Replies}
 use Rattle.gv_mediator.specs.Event.{IsGuestEvent}
-use Rattle.gv_mediator.specs.Listed.{DeviceMayFault, DeviceMayLackMemory}
+use Rattle.gv_mediator.specs.Listed.{AnswersOnce, DeviceMayFault, DeviceMayLackMemory}
 use Rattle.gv_vgpu.specs.Vgpu.{private_of}
 use Rattle.gv_private.specs.Inputs.{answer}
 use Rattle.gv_mediator.specs.Tied.{IsAt}
 use Rattle.gv_mediator.proofs.Receiving.{copies-then, guest-event, live-here, machine-then, may-fault, may-lack, ok-all, ok-then, ran-then, receiver-there, reply-is, room-here, tied-then}
-use Rattle.gv_mediator.proofs.Promised.{moves-then, ok-both, pokes-then}
+use Rattle.gv_mediator.proofs.Promised.{moves-then, ok-both, once-then, pokes-then}
 use Rattle.gv_mediator.proofs.mediator.Mediator.guest_event.Goals as goal
 
 pub answer-requires-clause-holds : goal.answer-requires-clause-holds
@@ -148,6 +148,20 @@ returns-clause-lacks g c lack =
     let here : IsAt m.guests.items k old = (receiver-there d m c.requires.tied one k c.requires.event c.receiver-guest.ensures, sym c.index_mut-device.ensures.value) in
     may-lack d m c.requires.tied one k c.requires.event c.receiver-guest.ensures old here
     (subst (λ (own : ℕ → Bool). DeviceMayLackMemory d (private_of d old own) one) c.owned_by-here.ensures (c.answer.ensures.lacks lack))
+
+pub returns-clause-once : goal.returns-clause-once
+returns-clause-once g c =
+    let d = g.G.Gpu.state c.args.gpu.now in
+    let e = g.G.Gpu.state c.answer.new.gpu in
+    let m = c.args.self.now in
+    let k = c.receiver-guest.result.0 in
+    let old = c.index_mut-device.result.now in
+    let new = c.answer.new.device in
+    let one = c.args.event.now in
+    let here : IsAt m.guests.items k old = (receiver-there d m c.requires.tied one k c.requires.event c.receiver-guest.ensures, sym c.index_mut-device.ensures.value) in
+    ok-all c.answer.result _ _ c.answer.ensures.once
+    (λ reply once. once-then d e m k old new m.stopped here one reply.answer c.receiver-guest.ensures
+    (subst (λ (own : ℕ → Bool). AnswersOnce own d e old new one reply.answer) c.owned_by-here.ensures once))
 
 pub returns-clause-moves : goal.returns-clause-moves
 returns-clause-moves g c =

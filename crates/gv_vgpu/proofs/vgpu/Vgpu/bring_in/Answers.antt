@@ -4,6 +4,8 @@ use Rattle.gv_vgpu.specs.Vgpu.{no_engine, private_of}
 use Rattle.gv_vgpu.specs.Owners.{is_here}
 use Rattle.gv_vgpu.proofs.Refused.{load-fetches, refused-image, refused-load, refused-root}
 use Rattle.gv_vgpu.proofs.Registers.{load-then}
+use Rattle.gv_vgpu.proofs.Stopping.{on-err}
+use Rattle.gv_vgpu.proofs.Unsubmitted.{engines-then, loads-behind}
 use Rattle.gv_vgpu.proofs.Steps.{announced-has}
 use Rattle.gv_vgpu.proofs.vgpu.Vgpu.bring_in.Goals as goal
 
@@ -50,3 +52,15 @@ returns-in-Err-announce-clause-refuses g c =
     let p = private_of d c.args.self.now here in
     refused-root d c.args.self.now here c.requires.holds c.args.engine.0 c.args.descriptor c.of.result c.in-Ok.image c.of.ensures (c.in-Ok.ensures.image p) (g.G.Gpu.state c.announce.new.gpu) c.announce.new.self
     c.in-Err-announce.refusal c.in-Err-announce.ensures.refuses
+
+pub returns-in-Ok-announce-clause-unsubmitted : goal.returns-in-Ok-announce-clause-unsubmitted
+returns-in-Ok-announce-clause-unsubmitted g c =
+    on-err c.fetch_into.result _ _
+    (λ then. engines-then (g.G.Gpu.state c.args.gpu.now) (g.G.Gpu.state c.announce.new.gpu) (g.G.Gpu.state c.fetch_into.new.gpu) c.announce.ensures.unsubmitted then)
+    c.fetch_into.ensures.unsubmitted
+
+pub returns-in-Ok-announce-clause-ready : goal.returns-in-Ok-announce-clause-ready
+returns-in-Ok-announce-clause-ready g c =
+    on_ok_weaker c.fetch_into.result
+    (λ then. loads-behind c.args.engine.0 (g.G.Gpu.state c.args.gpu.now) (g.G.Gpu.state c.announce.new.gpu) (g.G.Gpu.state c.fetch_into.new.gpu) c.announce.ensures.unsubmitted then)
+    c.fetch_into.ensures.ready

@@ -13,6 +13,7 @@ use Rattle.gv_vgpu.proofs.Failing.{may-fail-after}
 use Rattle.gv_vgpu.proofs.Own.{stops-then}
 use Rattle.gv_vgpu.proofs.Roots.{refused-here, root-created, root-refused}
 use Rattle.gv_vgpu.proofs.Stopping.{err-of, if-ok, ok-of, on-err, stops-without}
+use Rattle.gv_vgpu.proofs.Unsubmitted.{fault-lacks-none, tables-engines}
 use Rattle.gv_vgpu.proofs.vgpu.Vgpu.create_root.Goals as goal
 
 pub fail-requires : goal.fail-requires
@@ -70,3 +71,9 @@ returns-in-Err-BadEntry-clause-listed g c = λ stopped.
     let here = is_here c.args.here in
     let refused = refused-here d old here c.args.root c.requires (c.in-Err-BadEntry.ensures.bad (λ i. Err (c.in-Err-BadEntry.field-0-is i))) in
     λ i. is_some (left_or_failed (private_of d old here) (refused i)).reason
+
+pub returns-in-Err-OutOfMemory-clause-unsubmitted : goal.returns-in-Err-OutOfMemory-clause-unsubmitted
+returns-in-Err-OutOfMemory-clause-unsubmitted g c = λ lack. tables-engines (g.G.Gpu.state c.args.gpu.now) (g.G.Gpu.state c.create_root.new.gpu) c.args.self.now.gtt c.create_root.new.self c.create_root.ensures.changes
+
+pub returns-in-Err-BadEntry-clause-unsubmitted : goal.returns-in-Err-BadEntry-clause-unsubmitted
+returns-in-Err-BadEntry-clause-unsubmitted g c = fault-lacks-none c.fail.result c.or_stop.result _ c.or_stop.ensures.fault

@@ -5,6 +5,7 @@ use Rattle.gv_vgpu.specs.Vgpu.{private_of}
 use Rattle.gv_vgpu.specs.Owners.{is_here}
 use Rattle.gv_vgpu.specs.declared.vgpu.Vgpu.{Vgpu}
 use Rattle.gv_vgpu.proofs.Roots.{at-work-stays, less-keeps, none-destroyed, root-destroyed}
+use Rattle.gv_vgpu.proofs.Unsubmitted.{tables-engines}
 use Rattle.gv_vgpu.proofs.Stopping.{stops-without}
 use Rattle.gv_vgpu.proofs.vgpu.Vgpu.destroy_root.Goals as goal
 use Rattle.gv_vgpu.proofs.vgpu.Vgpu.destroy_root.Goals.{else-root-from-via-then-root-from+else-not-is_at_work, else-root-from-via-else-root-from}
@@ -41,3 +42,9 @@ returns-else-root-from-clause-device g c =
       | else-root-from-via-then-root-from+else-not-is_at_work w ↦ at-work-stays (private_of d old here) c.args.root (sym (w.is_at_work.ensures d here) ∙ w.if-not-is_at_work.false)
       | else-root-from-via-else-root-from w ↦ none-destroyed d old here c.args.root c.requires (omega (arith, w.if-root-from.false, c.from.ensures, c.frames.ensures))
     ]
+
+pub returns-in-Ok-clause-unsubmitted : goal.returns-in-Ok-clause-unsubmitted
+returns-in-Ok-clause-unsubmitted g c = tables-engines (g.G.Gpu.state c.args.gpu.now) (g.G.Gpu.state c.destroy_root.new.gpu) c.args.self.now.gtt c.destroy_root.new.self c.destroy_root.ensures.changes
+
+pub returns-in-Err-clause-unsubmitted : goal.returns-in-Err-clause-unsubmitted
+returns-in-Err-clause-unsubmitted g c = tables-engines (g.G.Gpu.state c.args.gpu.now) (g.G.Gpu.state c.destroy_root.new.gpu) c.args.self.now.gtt c.destroy_root.new.self c.destroy_root.ensures.changes

@@ -1,14 +1,16 @@
 use Rattle.std.proofs.Common.{◌∙◌, sym, ◌∷◌}
 use Rattle.std.specs.Prelude.{option_to_list}
+use Rattle.gv_gtt.specs.Gtt.{number_of}
 use Rattle.gv_private.specs.Status.{events_given}
 use Rattle.gv_vgpu.specs.Vgpu.{private_of}
 use Rattle.gv_vgpu.specs.Owners.{is_here}
 use Rattle.gv_vgpu.proofs.Raised.{made, two-events}
 use Rattle.gv_vgpu.proofs.Registers.{keeps-then}
+use Rattle.gv_vgpu.proofs.Unsubmitted.{engines-then, frames-engines}
 use Rattle.gv_vgpu.proofs.vgpu.Vgpu.give_events.Goals as goal
 
-pub returns-in-Some : goal.returns-in-Some
-returns-in-Some g c =
+pub returns-in-Some-clause-given : goal.returns-in-Some-clause-given
+returns-in-Some-clause-given g c =
     let here = is_here c.args.here in
     let d = g.G.Gpu.state c.args.gpu.now in
     let e = g.G.Gpu.state c.give_event-first.new.gpu in
@@ -26,3 +28,13 @@ returns-in-Some g c =
           ∙ (λ i. made (private_of f new here) (sym c.or.ensures i));
       keeps = keeps-then here d e f old one new first.keeps second.keeps;
     }
+
+pub returns-in-Some-clause-engines : goal.returns-in-Some-clause-engines
+returns-in-Some-clause-engines g c =
+    engines-then (g.G.Gpu.state c.args.gpu.now) (g.G.Gpu.state c.give_event-first.new.gpu) (g.G.Gpu.state c.give_event-second.new.gpu)
+    (frames-engines (number_of c.args.self.now.gtt) 3 (g.G.Gpu.state c.args.gpu.now) (g.G.Gpu.state c.give_event-first.new.gpu) c.give_event-first.ensures.part)
+    (frames-engines (number_of c.give_event-first.new.self.gtt) 3 (g.G.Gpu.state c.give_event-first.new.gpu) (g.G.Gpu.state c.give_event-second.new.gpu) c.give_event-second.ensures.part)
+
+pub returns-in-None-clause-engines : goal.returns-in-None-clause-engines
+returns-in-None-clause-engines g c =
+    frames-engines (number_of c.args.self.now.gtt) 3 (g.G.Gpu.state c.args.gpu.now) (g.G.Gpu.state c.give_event-first.new.gpu) c.give_event-first.ensures.part

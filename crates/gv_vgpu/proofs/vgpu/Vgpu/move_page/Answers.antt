@@ -1,5 +1,6 @@
 use Rattle.std.proofs.Common.{Ok, refl, sym, ◌∙◌}
 use Rattle.gv_types.specs.declared.reply.Stop.{Stop}
+use Rattle.gv_gtt.specs.Gtt.{number_of}
 use Rattle.gv_gtt.proofs.Others.{changes_stay_inside}
 use Rattle.gv_gtt.proofs.Steps.{frames-changes}
 use Rattle.gv_private.specs.Grants.{move_answer}
@@ -8,6 +9,7 @@ use Rattle.gv_vgpu.specs.Owners.{is_here}
 use Rattle.gv_vgpu.specs.declared.vgpu.Vgpu.{Vgpu}
 use Rattle.gv_vgpu.proofs.Moves.{moved-keeps, moved-private, unless-kept}
 use Rattle.gv_vgpu.proofs.Stopping.{stops-without}
+use Rattle.gv_vgpu.proofs.Unsubmitted.{frames-engines}
 use Rattle.gv_vgpu.proofs.Working.{over-private}
 use Rattle.gv_vgpu.proofs.vgpu.Vgpu.move_page.Goals as goal
 
@@ -70,3 +72,12 @@ returns-in-Err-clause-lacks g c =
     let failed = c.in-Err.is in
     let same = (c.in-Err.ensures.kept p).1 ((λ i. move_answer (over-private (g.G.Gpu.state c.args.gpu.now) c.args.self.now (is_here c.args.here) c.requires.holds i) c.args.frame) ∙ kept) in
     cc))
+
+pub returns-in-Ok-Moved-clause-unsubmitted : goal.returns-in-Ok-Moved-clause-unsubmitted
+returns-in-Ok-Moved-clause-unsubmitted g c = frames-engines (number_of c.args.self.now.gtt) 512 (g.G.Gpu.state c.args.gpu.now) (g.G.Gpu.state c.move_page.new.gpu) c.move_page.ensures.changes
+
+pub returns-in-Ok-Kept-clause-unsubmitted : goal.returns-in-Ok-Kept-clause-unsubmitted
+returns-in-Ok-Kept-clause-unsubmitted g c = frames-engines (number_of c.args.self.now.gtt) 512 (g.G.Gpu.state c.args.gpu.now) (g.G.Gpu.state c.move_page.new.gpu) c.move_page.ensures.changes
+
+pub returns-in-Err-clause-unsubmitted : goal.returns-in-Err-clause-unsubmitted
+returns-in-Err-clause-unsubmitted g c = frames-engines (number_of c.args.self.now.gtt) 512 (g.G.Gpu.state c.args.gpu.now) (g.G.Gpu.state c.move_page.new.gpu) c.move_page.ensures.changes

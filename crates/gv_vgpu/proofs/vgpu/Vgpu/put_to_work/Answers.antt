@@ -3,6 +3,7 @@ use Rattle.gv_types.specs.declared.reply.Stop.TheVariants.{DeviceFault, OutOfMem
 use Rattle.gv_vgpu.specs.Owners.{is_here}
 use Rattle.gv_vgpu.proofs.Loads.{load-stops, loads-of, put-is, put-keeps}
 use Rattle.gv_vgpu.proofs.Announced.{room-for-window, root-small}
+use Rattle.gv_vgpu.proofs.Unsubmitted.{element-loads}
 use Rattle.gv_vgpu.proofs.vgpu.Vgpu.put_to_work.Goals as goal
 
 pub overflow_cast-root : goal.overflow_cast-root
@@ -46,3 +47,8 @@ returns-in-Err-GpuFailed-clause-stops g c =
     load-stops (is_here c.args.here) (g.G.Gpu.state c.args.gpu.now) (g.G.Gpu.state c.load.new.gpu) c.args.self.now c.guest-guest.result.0 c.args.engine.0 DeviceFault (c.guest-guest.ensures ∙ c.requires.holds.number)
     c.requires.engine c.requires.own c.in-Err-GpuFailed.ensures.unchanged (λ is. c.in-Err-GpuFailed.ensures.cause (λ i. Err (c.in-Err-GpuFailed.field-0-is i)))
     (λ (is : DeviceFault ≡ OutOfMemory). absurd cc)
+
+pub returns-in-Ok-clause-ready : goal.returns-in-Ok-clause-ready
+returns-in-Ok-clause-ready g c =
+    let now = c.in-Ok.ensures in
+    element-loads c.guest-guest.result.0 c.args.engine.0 c.in-Ok.element.window.pages (g.G.Gpu.state c.args.gpu.now) (g.G.Gpu.state c.load.new.gpu) now.outside now.registers now.room

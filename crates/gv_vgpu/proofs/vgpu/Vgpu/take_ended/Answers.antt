@@ -6,6 +6,7 @@ use Rattle.gv_vgpu.specs.Owners.{is_here}
 use Rattle.gv_vgpu.specs.Turn.{EndOf}
 use Rattle.gv_vgpu.specs.declared.vgpu.Vgpu.{Vgpu}
 use Rattle.gv_vgpu.proofs.Ended.{end-of, may-go, taken-is, taken-other, taken-own}
+use Rattle.gv_vgpu.proofs.Unsubmitted.{window-engines}
 use Rattle.gv_vgpu.proofs.vgpu.Vgpu.take_ended.Goals as goal
 
 pub release-requires : goal.release-requires
@@ -17,8 +18,8 @@ release-requires g c =
     (sym (taken-is old.engines c.args.engine.0 c.index-self-engine.result within c.take.result c.in-Some.element ended.element c.take.ensures.value c.in-Some.is ended.at_work))
     (may-go ended.before old (is_here c.args.here) c.args.engine.0 ended.element ended.holds ended.own c.requires.engine ended.at_work (g.G.Gpu.state c.args.gpu.now) ended.ended)
 
-pub returns : goal.returns
-returns g c = λ ended.
+pub returns-clause-ends : goal.returns-clause-ends
+returns-clause-ends g c = λ ended.
     let old = c.args.self.now in
     let d = g.G.Gpu.state c.args.gpu.now in
     let e = g.G.Gpu.state c.release.new.gpu in
@@ -40,3 +41,6 @@ returns g c = λ ended.
     refl refl refl
     (taken-own old.engines engine c.index-self-engine.result within c.take.new.self c.take.ensures.after)
     (λ k differ. taken-other old.engines engine k (record { element = c.take.new.self; kept = (slice_index_or old.engines engine c.index-self-engine.result).kept }) differ))
+
+pub returns-clause-engines : goal.returns-clause-engines
+returns-clause-engines g c = window-engines (g.G.Gpu.state c.args.gpu.now) (g.G.Gpu.state c.release.new.gpu) c.in-Some.element.window c.release.ensures.outside

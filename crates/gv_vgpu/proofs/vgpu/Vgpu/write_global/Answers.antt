@@ -1,9 +1,11 @@
 use Rattle.std.proofs.Common.{refl, sym, ◌∙◌}
+use Rattle.gv_gtt.specs.Gtt.{number_of}
 use Rattle.gv_gtt.proofs.Steps.{frames-changes}
 use Rattle.gv_private.specs.Grants.{global_written}
 use Rattle.gv_vgpu.specs.Vgpu.{private_of}
 use Rattle.gv_vgpu.specs.Owners.{is_here}
 use Rattle.gv_vgpu.proofs.Kept.{private-after}
+use Rattle.gv_vgpu.proofs.Unsubmitted.{frames-engines}
 use Rattle.gv_vgpu.proofs.Working.{over-private}
 use Rattle.gv_vgpu.proofs.Written.{keeps-after}
 use Rattle.gv_vgpu.proofs.vgpu.Vgpu.write_global.Goals as goal
@@ -24,3 +26,6 @@ returns-clause-keeps g c =
     let e = g.G.Gpu.state c.write_dword.new.gpu in
     let v = c.args.self.now in
     keeps-after d e v v (is_here c.args.here) c.requires.holds (frames-changes 1 d e v.gtt c.write_dword.ensures.changes) refl refl refl c.write_dword.ensures.translates (λ root is. (is, refl))
+
+pub returns-clause-engines : goal.returns-clause-engines
+returns-clause-engines g c = frames-engines (number_of c.args.self.now.gtt) 1 (g.G.Gpu.state c.args.gpu.now) (g.G.Gpu.state c.write_dword.new.gpu) c.write_dword.ensures.changes

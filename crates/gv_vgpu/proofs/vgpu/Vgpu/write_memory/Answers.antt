@@ -15,6 +15,7 @@ use Rattle.gv_vgpu.proofs.Own.{stops-then}
 use Rattle.gv_vgpu.proofs.Plain.{access-frames, ok-anyway}
 use Rattle.gv_vgpu.proofs.Words.{bad-written, good-written}
 use Rattle.gv_vgpu.proofs.Stopping.{err-of, if-ok, ok-of, on-err, stops-without}
+use Rattle.gv_vgpu.proofs.Unsubmitted.{fault-lacks-none, tables-engines}
 use Rattle.gv_vgpu.proofs.vgpu.Vgpu.write_memory.Goals as goal
 
 pub fail-requires : goal.fail-requires
@@ -72,3 +73,9 @@ pub returns-in-Err-BadEntry-clause-part : goal.returns-in-Err-BadEntry-clause-pa
 returns-in-Err-BadEntry-clause-part g c =
     ok-anyway c.or_stop.result _
     (λ plain. absurd (false≢true (c.in-Err-BadEntry.ensures.beside plain)))
+
+pub returns-in-Err-OutOfMemory-clause-unsubmitted : goal.returns-in-Err-OutOfMemory-clause-unsubmitted
+returns-in-Err-OutOfMemory-clause-unsubmitted g c = λ lack. tables-engines (g.G.Gpu.state c.args.gpu.now) (g.G.Gpu.state c.write.new.gpu) c.args.self.now.gtt c.write.new.self c.write.ensures.changes
+
+pub returns-in-Err-BadEntry-clause-unsubmitted : goal.returns-in-Err-BadEntry-clause-unsubmitted
+returns-in-Err-BadEntry-clause-unsubmitted g c = fault-lacks-none c.fail.result c.or_stop.result _ c.or_stop.ensures.fault

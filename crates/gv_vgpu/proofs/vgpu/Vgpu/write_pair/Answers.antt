@@ -5,6 +5,8 @@ use Rattle.gv_private.specs.Registers.{dword_written}
 use Rattle.gv_vgpu.specs.Vgpu.{private_of}
 use Rattle.gv_vgpu.specs.Owners.{is_here}
 use Rattle.gv_vgpu.proofs.Own.{stops-then}
+use Rattle.gv_vgpu.proofs.BesideNotify.{front-plain}
+use Rattle.gv_vgpu.proofs.Unsubmitted.{access-engines, engines-then}
 use Rattle.gv_vgpu.proofs.Plain.{access-then}
 use Rattle.gv_vgpu.proofs.Pairs.{both, faults-first, faults-second, first-alone}
 use Rattle.gv_vgpu.proofs.vgpu.Vgpu.write_pair.Goals as goal
@@ -50,3 +52,10 @@ returns-clause-part g c = λ plain.
     let keeps = c.in_ok-first.ensures.written.keeps in
     access-then 3 3 (g.G.Gpu.state c.args.gpu.now) (g.G.Gpu.state c.write_dword.new.gpu) (g.G.Gpu.state c.write_dword-2.new.gpu) c.args.self.now c.write_dword.new.self keeps.changes.number keeps.changes.ranges
     (c.in_ok-first.ensures.part plain.0) (c.in_ok-second.ensures.part plain.1)
+
+pub returns-in_err-second-clause-unsubmitted : goal.returns-in_err-second-clause-unsubmitted
+returns-in_err-second-clause-unsubmitted g c =
+    let p = err_from_is_err_and c.from_residual-in_err-second.result c.from_residual-in_err-second.ensures.1 in rw (p.1, p.2)
+    (λ stopped. engines-then (g.G.Gpu.state c.args.gpu.now) (g.G.Gpu.state c.write_dword.new.gpu) (g.G.Gpu.state c.write_dword-2.new.gpu)
+    (access-engines 3 (g.G.Gpu.state c.args.gpu.now) (g.G.Gpu.state c.write_dword.new.gpu) c.args.self.now (c.in_ok-first.ensures.part (front-plain c.args.offset (c.in_err-second.ensures.lacks stopped))))
+    (c.in_err-second.ensures.unsubmitted stopped))
