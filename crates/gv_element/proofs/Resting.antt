@@ -1,5 +1,5 @@
 -- A window that was built, whose image is filled in with a place, holds an element at rest.
-use Rattle.std.proofs.Common.{◌≡◌, ◌≢◌, ℕ, suc, zero, ◌+◌, ◌*◌, ◌/◌, ◌%◌, ◌^◌, ◌<◌, ◌≤◌, Bool, true, false, cond, eqb, ◌&&◌, List, [], ◌∷◌, length, Option, None, Some, refl, ap, sym, subst, ◌∙◌, arith, lit<}
+use Rattle.std.proofs.Common.{◌≡◌, ◌≢◌, ℕ, suc, zero, ◌+◌, ◌*◌, ◌^◌, ◌<◌, Bool, true, false, cond, eqb, ◌&&◌, List, [], length, Option, None, Some, refl, ap, sym, subst, ◌∙◌, arith, lit<}
 use Rattle.std.specs.Prelude.{IfSome}
 use Rattle.std.proofs.lemmas.Bool.{eqb-true, false≢true}
 use Rattle.std.proofs.lemmas.Bool.Decides.{nat_tests}
@@ -9,7 +9,7 @@ use Rattle.gv_ctx.specs.declared.saved.Saved.{Saved}
 use Rattle.gv_fetch.specs.Left.{Left}
 use Rattle.gv_gpu.specs.Context.{context_of}
 use Rattle.gv_gpu.specs.Device.{Device, Loaded}
-use Rattle.gv_place.specs.Place.{KeepsShadow, Follows, StandsFor}
+use Rattle.gv_place.specs.Place.{KeepsShadow, StandsFor}
 use Rattle.gv_place.proofs.Kept.{copied-kept}
 use Rattle.gv_scan.specs.Layout.{placed_layout}
 use Rattle.gv_scan.proofs.Placing.{length-all}
@@ -19,10 +19,10 @@ use Rattle.gv_sctx.proofs.Filling.{context-filled, poked-words, length-filled}
 use Rattle.gv_sring.specs.Window.{Window, first_of, page_at, Shows, ring_address, batches_address, descriptor_at}
 use Rattle.gv_sring.proofs.Windows.{shows-same}
 use Rattle.gv_sring.proofs.WindowReads.{shows-image}
-use Rattle.gv_place.specs.Placed.{placed_batch, placed_place}
+use Rattle.gv_place.specs.Placed.{placed_place}
 use Rattle.gv_place.proofs.Putting.{follows-placed}
 use Rattle.gv_element.specs.Place.{IsSmallPlace, image_put, IsProgramAt, RestsWith}
-use Rattle.gv_element.specs.Works.{Held, WorksAs, WorksWith}
+use Rattle.gv_element.specs.Works.{WorksAs, WorksWith}
 use Rattle.gv_element.proofs.Loading.{Built, poked-is, poked-others}
 use Rattle.gv_gpu.specs.Part.{outside, window_part, is_named, is_shadow_of, shadow_label}
 use Rattle.gv_sctx.proofs.Filling.{poked-outside}

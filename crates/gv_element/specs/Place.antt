@@ -8,8 +8,7 @@ use Rattle.gv_place.specs.Place.{Follows}
 use Rattle.gv_place.specs.Seen.{IsShort}
 use Rattle.gv_scan.specs.Layout.{Layout, IsLayout}
 use Rattle.gv_sctx.specs.Image.{image_fields, dwords_poked}
-use Rattle.gv_sring.specs.Window.{Window, page_at, ring_address, batches_address}
-use Rattle.gv_place.specs.Placed.{placed_place}
+use Rattle.gv_sring.specs.Window.{Window, page_at, ring_address}
 use Rattle.gv_element.specs.Works.{Held, WorksWith}
 
 -- each address is one of 48 bits

@@ -5,7 +5,7 @@ use Rattle.std.proofs.lemmas.List.{take-append-drop, take-set, drop-set}
 use Rattle.std.proofs.Common.{get_or-set_same, get_or-set_other}
 use Rattle.std.specs.Int.{w64, byte_at, to_le_bytes, from_le_bytes}
 use Rattle.gv_types.specs.Bits.{with_byte}
-use Rattle.gv_arena.specs.Rows.{bytes_of, overwritten, row_copied, AreWords, IsPage, IsCopied}
+use Rattle.gv_arena.specs.Rows.{bytes_of, overwritten, row_copied, IsPage, IsCopied}
 use Rattle.gv_arena.proofs.Bytes.{byte_in_list}
 use Rattle.gv_arena.proofs.Overwriting.{bytes_below, piece_inside, piece_below, piece_above, words_set}
 use Rattle.gv_arena.proofs.PageBytes.{get_or-bytes_of}

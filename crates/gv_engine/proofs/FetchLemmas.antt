@@ -1,6 +1,5 @@
 -- The front command's dwords, one at a time, and its step.
-use Rattle.std.proofs.Common.{◌≡◌, ℕ, ◌+◌, ◌*◌, ◌<◌, ◌||◌, ◌++◌, ◌∷◌, [], Bool, false, List, length, take, set, refl, ap, sym, ◌∙◌, add-one, arith, Result}
-use Rattle.std.proofs.lemmas.Grind.{common_steps}
+use Rattle.std.proofs.Common.{◌≡◌, ℕ, ◌+◌, ◌*◌, ◌<◌, ◌||◌, ◌++◌, ◌∷◌, [], Bool, false, List, length, take, set, refl, ap, sym, ◌∙◌, add-one, Result}
 use Rattle.std.proofs.lemmas.List.{take_more_set}
 use Rattle.gv_cmd.specs.Command.{decoded}
 use Rattle.gv_cmd.specs.declared.command.Unlisted.{Unlisted}

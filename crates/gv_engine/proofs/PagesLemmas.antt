@@ -1,13 +1,11 @@
 -- Words that are put in the place of a page's.
-use Rattle.std.proofs.Common.{◌≡◌, ℕ, ◌+◌, ◌/◌, ◌<◌, List, length, get_or, set, Bool, true, Option, Some, None, refl, sym, ap, ◌∙◌, add-one, arith, cond, eqb, IsSome}
-use Rattle.std.specs.Prelude.{count_by}
-use Rattle.std.specs.Option.{is_some}
+use Rattle.std.proofs.Common.{◌≡◌, ℕ, ◌+◌, ◌/◌, List, get_or, set, Option, Some, sym, ap, ◌∙◌, add-one, arith, IsSome}
 use Rattle.std.proofs.lemmas.Bool.Decides.{nat_tests}
 use Rattle.std.proofs.lemmas.Grind.{common_steps}
 use Rattle.gv_types.specs.Maps.{put}
 use Rattle.gv_types.specs.Bits.{with_byte}
 use Rattle.gv_types.specs.declared.ids.Label.{Label}
-use Rattle.gv_arena.specs.Contents.{Contents, words_at, words_of, words_or_none, live, with_page}
+use Rattle.gv_arena.specs.Contents.{Contents, words_at, words_of, live, with_page}
 use Rattle.gv_engine.specs.Pages.{Held, held_by, with_words, bytes_put}
 
 module _ {A : Type 0} (f : ℕ → A) (k : ℕ) where

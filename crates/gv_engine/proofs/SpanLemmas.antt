@@ -1,5 +1,5 @@
 -- Accesses of one page go through the same walk, also after words of another page have changed than a table of it.
-use Rattle.std.proofs.Common.{◌≡◌, ◌≢◌, ℕ, ◌+◌, ◌/◌, ◌%◌, ◌^◌, ◌||◌, Bool, true, false, List, Option, None, Some, get_or, refl, sym, ap, ◌∙◌, eqb}
+use Rattle.std.proofs.Common.{◌≡◌, ◌≢◌, ℕ, ◌+◌, ◌/◌, ◌%◌, ◌^◌, ◌||◌, Bool, true, false, List, Option, None, Some, get_or, refl, sym, ap, ◌∙◌}
 use Rattle.std.proofs.lemmas.Nat.{shr-shr}
 use Rattle.std.proofs.lemmas.Bool.Decides.{nat_tests}
 use Rattle.std.proofs.Common.{arith}

@@ -1,5 +1,5 @@
 -- What is left of an element stays within its bounds, and its levels stay nested, with each command that runs.
-use Rattle.std.proofs.Common.{◌≡◌, ℕ, ◌+◌, ◌*◌, ◌%◌, ◌^◌, ◌<◌, ◌≤◌, Bool, true, false, List, length, get_or, Option, None, Some, refl, ap, sym, subst, ◌∙◌, arith}
+use Rattle.std.proofs.Common.{◌≡◌, ℕ, ◌+◌, ◌^◌, ◌<◌, ◌≤◌, Bool, true, false, List, get_or, Option, None, Some, refl, arith}
 use Rattle.gv_cmd.specs.Allowed.{is_allowed, may_stand}
 use Rattle.gv_cmd.specs.Table.{kind_of}
 use Rattle.gv_cmd.specs.declared.kind.Kind.{Kind}

@@ -1,5 +1,5 @@
 -- What is fetched makes global accesses on owned pages alone.
-use Rattle.std.proofs.Common.{◌≡◌, ℕ, suc, zero, ◌+◌, ◌-◌, ◌*◌, ◌&&◌, not, Bool, true, false, List, [], ◌∷◌, length, take, drop, get_or, leb, Option, None, Some, Result, Ok, Err, cond, refl, ap, sym, subst, ◌∙◌}
+use Rattle.std.proofs.Common.{◌≡◌, ℕ, suc, zero, ◌+◌, ◌-◌, ◌*◌, ◌&&◌, not, Bool, true, false, List, [], ◌∷◌, length, take, drop, get_or, leb, Option, None, Some, Result, Ok, Err, cond, ap, sym, subst, ◌∙◌}
 use Rattle.std.proofs.lemmas.Bool.{and_parts}
 use Rattle.gv_types.specs.declared.reply.Reason.{Reason}
 use Rattle.gv_types.specs.declared.reply.Reason.TheVariants.{Command}

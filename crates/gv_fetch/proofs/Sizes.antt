@@ -1,5 +1,5 @@
 -- What is fetched is within its bounds.
-use Rattle.std.proofs.Common.{◌≡◌, ℕ, suc, zero, ◌+◌, ◌-◌, ◌*◌, ◌<◌, ◌≤◌, true, false, List, [], ◌∷◌, length, drop, length-drop, Option, Some, Result, Ok, Err, refl, ap, arith}
+use Rattle.std.proofs.Common.{◌≡◌, ℕ, suc, zero, ◌+◌, ◌-◌, ◌*◌, ◌≤◌, true, false, List, [], ◌∷◌, length, drop, length-drop, Option, Some, Result, Ok, Err, refl, ap, arith}
 use Rattle.gv_types.specs.declared.reply.Reason.{Reason}
 use Rattle.gv_types.specs.declared.reply.Reason.TheVariants.{Command}
 use Rattle.gv_ctx.specs.Image.{IsImage}
@@ -11,7 +11,7 @@ use Rattle.gv_cmd.specs.declared.kind.Kind.TheVariants.{BatchEnd, BatchStart}
 use Rattle.gv_cmd.specs.declared.stands.Stands.{Stands}
 use Rattle.gv_cmd.specs.declared.stands.Stands.TheVariants.{Privileged}
 use Rattle.gv_fetch.specs.Items.{Items, none, command, batch, inside, start_at, is_fetched_start}
-use Rattle.gv_fetch.specs.Fetch.{GlobalSpace, then, by_kind, Got, batch_command, ring_command, command_first, batch_first, batch_items, whole_batch, ring_items, whole_ring, ring_dwords, fetched}
+use Rattle.gv_fetch.specs.Fetch.{GlobalSpace, then, by_kind, Got, batch_command, ring_command, command_first, batch_first, batch_items, whole_batch, ring_items, ring_dwords, fetched}
 use Rattle.gv_fetch.specs.Left.{begun}
 use Rattle.gv_fetch.proofs.Fetched.{fetched-ring, length-ring, ring-few}
 use Rattle.gv_fetch.proofs.Forms.{then-ok, batch_command-ok, ring_command-ok}

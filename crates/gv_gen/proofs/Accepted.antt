@@ -1,9 +1,7 @@
 -- Every line of a number's script is accepted, so the script is done.
-use Rattle.std.proofs.Common.{◌≡◌, ℕ, zero, suc, ◌+◌, ◌*◌, ◌/◌, ◌%◌, ◌^◌, ◌<◌, ◌≤◌, true, false, Bool, cond, List, [], ◌∷◌, ◌++◌, refl, ap, sym, ◌∙◌, arith, ltb, ◌&&◌, Some, None}
+use Rattle.std.proofs.Common.{◌≡◌, ℕ, zero, suc, ◌+◌, ◌%◌, ◌^◌, ◌<◌, true, false, Bool, cond, List, [], ◌∷◌, ◌++◌, refl, ap, ◌∙◌, arith, ltb, ◌&&◌, Some, None}
 use Rattle.std.proofs.lemmas.Bool.{lt-ltb}
 use Rattle.std.specs.Bool.{OnFalse}
-use Rattle.gv_text.specs.Grammar.{IsForm}
-use Rattle.gv_text.specs.Number.{provided}
 use Rattle.gv_text.specs.Script.{Script, accepts, ends, is_end, known_after, nothing_known, onto_script, script_on}
 use Rattle.gv_text.specs.declared.ending.Ending.TheVariants.{Done}
 use Rattle.gv_text.specs.declared.known.Known.{Known}
@@ -13,7 +11,7 @@ use Rattle.gv_gen.specs.declared.draw.Kind.{Kind}
 use Rattle.gv_gen.specs.declared.draw.Kind.TheVariants.{Store, Load, Submit, Turns, Switch, Map, Pointer, Move}
 use Rattle.gv_gen.specs.Draw.{next_state, drawn, draw_at, state_after}
 use Rattle.gv_gen.specs.Made.{AreAccepted, script_of_lines, script_made}
-use Rattle.gv_gen.specs.Script.{made_guest_line, set_up_lines, lines_by, round_lines, rounds_from, script_of_number, submit_lines}
+use Rattle.gv_gen.specs.Script.{made_guest_line, set_up_lines, lines_by, rounds_from, script_of_number}
 
 -- both guests are there
 abbrev two_known : Bool → Known

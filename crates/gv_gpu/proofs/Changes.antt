@@ -1,9 +1,9 @@
 -- Changes of parts, one after another and of larger parts, and what they leave.
-use Rattle.std.proofs.Common.{◌≡◌, ℕ, ◌+◌, ◌≤◌, true, [], List, refl, ap, sym, ◌∙◌, arith}
+use Rattle.std.proofs.Common.{◌≡◌, ℕ, ◌+◌, ◌≤◌, true, [], refl, ap, sym, ◌∙◌, arith}
 use Rattle.std.proofs.lemmas.List.{append-nil}
 use Rattle.gv_gpu.specs.Change.{ChangesOnly, Leaves, Ran}
 use Rattle.gv_gpu.specs.Device.{Device, poked, with_global}
-use Rattle.gv_gpu.specs.Part.{Part, Apart, Within, outside, inside}
+use Rattle.gv_gpu.specs.Part.{Part, Apart, Within, outside}
 use Rattle.gv_gpu.proofs.Changed.{outside-global, outside-poked}
 use Rattle.gv_gpu.proofs.Parts.{inside-kept, outside-widen}
 

@@ -1,5 +1,5 @@
 -- The shared device: all that it holds, and what each call makes of it.
-use Rattle.std.specs.Prelude.{ℕ, ◌+◌, ◌-◌, ◌^◌, min, max, List, [], Option, None, Some, if◌then◌else◌, ◌==◌, slice_set, ◌≡◌}
+use Rattle.std.specs.Prelude.{ℕ, ◌+◌, ◌-◌, ◌^◌, min, max, List, [], Option, None, Some, slice_set, ◌≡◌}
 use Rattle.gv_types.specs.Maps.{put}
 use Rattle.gv_types.specs.declared.ids.Label.{Label}
 use Rattle.gv_types.specs.Memory.{zero_words}

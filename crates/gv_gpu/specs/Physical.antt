@@ -1,7 +1,7 @@
 -- The memory that an engine reaches, through the physical entries of the global table or through the
 -- four levels of a root's physical tables; and which accesses stray.
-use Rattle.std.specs.Prelude.{ℕ, ◌+◌, ◌*◌, ◌/◌, ◌%◌, ◌^◌, ◌==◌, ◌&&◌, ◌||◌, not, nat_lt, Bool, true, false, ◌∷◌, [], slice_index, slice_set, if◌then◌else◌, Option, None, Some, is_some}
-use Rattle.std.specs.Int.{to_le_bytes, from_le_bytes, w32, w64}
+use Rattle.std.specs.Prelude.{ℕ, ◌+◌, ◌*◌, ◌/◌, ◌%◌, ◌^◌, ◌==◌, ◌&&◌, ◌||◌, not, nat_lt, Bool, true, false, ◌∷◌, [], slice_index, if◌then◌else◌, Option, None, Some, is_some}
+use Rattle.std.specs.Int.{from_le_bytes, w32}
 use Rattle.gv_types.specs.Bits.{byte_of, has_bit, has_lowest_bit, with_byte}
 use Rattle.gv_types.specs.declared.ids.Label.{Label}
 use Rattle.gv_types.specs.Memory.{half_of, with_half}

@@ -1,5 +1,5 @@
 -- One more page for the frames.
-use Rattle.std.proofs.Common.{◌≡◌, ◌≢◌, ℕ, ◌<◌, List, [], ◌∷◌, ◌++◌, ◌||◌, length, get_or, map, sym, ap, ◌∙◌, arith, None, Some, true, false, Bool, eqb, refl, subst, ⊎_elim}
+use Rattle.std.proofs.Common.{◌≡◌, ◌≢◌, ℕ, ◌<◌, List, [], ◌∷◌, ◌++◌, ◌||◌, length, get_or, map, sym, ap, ◌∙◌, arith, None, Some, true, false, eqb, refl, subst, ⊎_elim}
 use Rattle.std.proofs.lemmas.List.{same_lists, get_or-map, length-map, map_push}
 use Rattle.std.proofs.lemmas.List.Folds.{list_any-append}
 use Rattle.std.proofs.lemmas.Bool.{cases_eq, eq-eqb, or_left}

@@ -1,21 +1,19 @@
 -- A new device is accepted.
-use Rattle.std.proofs.Common.{◌≡◌, ℕ, suc, zero, ◌+◌, ◌%◌, ◌^◌, ◌<◌, ◌≤◌, Bool, true, false, cond, List, [], ◌∷◌, length, replicate, refl, subst, sym, ap, ◌∙◌, lit<, arith}
+use Rattle.std.proofs.Common.{◌≡◌, ℕ, suc, zero, ◌^◌, ◌<◌, Bool, true, false, cond, length, replicate, refl, lit<, arith}
 use Rattle.std.specs.List.{AllByRecursion}
 use Rattle.std.proofs.lemmas.List.{length-replicate}
 use Rattle.gv_csb.specs.Slots.{IsWellFormed, reset_execlists}
 use Rattle.gv_entry.specs.Global.{pages_of}
-use Rattle.gv_entry.specs.Ranges.{InParts}
-use Rattle.gv_entry.specs.Tables.{has_bad_entry}
 use Rattle.gv_private.specs.Device.{new_device, reset_engine}
 use Rattle.gv_private.proofs.Failsafe.{bad-none}
 use Rattle.gv_regs.specs.Registers.{keeps, reset_registers}
 use Rattle.gv_regs.specs.Table.{kind_at, reset_at}
 use Rattle.gv_regs.specs.declared.table.Kind.{Kind}
-use Rattle.gv_regs.specs.declared.table.Kind.TheVariants.{Plain, Masked, ReadOnly, Acknowledges, TopBit, OnesClear, Acting, Fixed}
+use Rattle.gv_regs.specs.declared.table.Kind.TheVariants.{Masked}
 use Rattle.gv_regs.proofs.Maps.{reset_at-zero}
 use Rattle.gv_types.specs.Memory.{zero_memory, zero_words, length-zero_words}
 use Rattle.gv_types.specs.declared.ranges.Ranges.{Ranges}
-use Rattle.gv_image.specs.Accepted.{AreQuadwords, limit_of, EngineIsAccepted, IsAccepted}
+use Rattle.gv_image.specs.Accepted.{AreQuadwords, limit_of, EngineIsAccepted}
 use Rattle.gv_image.specs.Laws.{FirstIsAccepted}
 
 all-replicated : {A : Type 0} (P : A → Type 0) (n : ℕ) (x : A) → P x → AllByRecursion P (replicate n x)

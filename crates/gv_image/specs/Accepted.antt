@@ -1,5 +1,5 @@
 -- The private devices whose images are accepted.
-use Rattle.std.specs.Prelude.{ℕ, ◌+◌, ◌-◌, ◌%◌, ◌^◌, ◌<◌, ◌≤◌, ◌≡◌, ◌≢◌, true, false, ⊤, List, [], length, Option, None, Some, IfSome}
+use Rattle.std.specs.Prelude.{ℕ, ◌%◌, ◌^◌, ◌<◌, ◌≤◌, ◌≡◌, ◌≢◌, true, false, ⊤, List, [], length, Option, Some, IfSome}
 use Rattle.std.specs.List.Sorted.{IsStrictlyIncreasing}
 use Rattle.std.specs.List.{AllByRecursion}
 use Rattle.gv_csb.specs.Slots.{IsWellFormed}
@@ -8,7 +8,7 @@ use Rattle.gv_entry.specs.Ranges.{InParts}
 use Rattle.gv_entry.specs.SameTables.{has}
 use Rattle.gv_entry.specs.Tables.{has_bad_entry}
 use Rattle.gv_fetch.specs.Flat.{flat, IsBounded}
-use Rattle.gv_fetch.specs.Left.{Left, Level, Fetched, At, IsLeft}
+use Rattle.gv_fetch.specs.Left.{Left, Level, Fetched, IsLeft}
 use Rattle.gv_fetch.specs.Owned.{OwnsLeft}
 use Rattle.gv_irq.specs.Irq.{AllDwords}
 use Rattle.gv_private.specs.Device.{Engine, PrivateDevice, Working, reset_engine}

@@ -1,7 +1,7 @@
 -- What holds of images, and of the devices whose images are accepted.
-use Rattle.std.specs.Prelude.{◌≡◌, ℕ, ◌<◌, ◌≤◌, List, ◌++◌, length}
+use Rattle.std.specs.Prelude.{◌≡◌, ℕ, ◌<◌, ◌≤◌, length}
 use Rattle.gv_entry.specs.Ranges.{InParts}
-use Rattle.gv_private.specs.Device.{PrivateDevice, new_device}
+use Rattle.gv_private.specs.Device.{new_device}
 use Rattle.gv_types.specs.declared.ranges.Ranges.{Ranges}
 use Rattle.gv_image.specs.Accepted.{IsAccepted}
 use Rattle.gv_image.specs.Image.{image}

@@ -1,6 +1,5 @@
 -- The interrupt registers of one guest, and when an interrupt is injected.
 use Rattle.std.specs.Prelude.{ℕ, ◌+◌, ◌-◌, ◌/◌, ◌%◌, ◌^◌, ◌<◌, List, [], ◌∷◌, Bool, false, not, ◌==◌, ◌&&◌, if◌then◌else◌, Option, None, Some, bit_and, bit_or}
-use Rattle.std.specs.Int.{bit_at}
 use Rattle.std.specs.List.{list_any}
 use Rattle.gv_types.specs.Bits.{has_bit}
 use Rattle.gv_irq.specs.declared.group.GroupId.{GroupId}

@@ -1,5 +1,5 @@
 -- What is left of an element, laid out, built into a window and loaded at its place, is left again.
-use Rattle.std.proofs.Common.{◌≡◌, ℕ, ◌+◌, ◌*◌, ◌%◌, ◌≤◌, Bool, true, false, cond, List, [], ◌∷◌, ◌++◌, map, length, length-append, append_assoc, Option, None, Some, refl, ap, sym, subst, ◌∙◌, arith}
+use Rattle.std.proofs.Common.{◌≡◌, ℕ, ◌+◌, ◌*◌, ◌≤◌, true, false, cond, List, [], ◌++◌, map, length, length-append, append_assoc, Option, None, Some, refl, ap, sym, subst, ◌∙◌, arith}
 use Rattle.std.specs.List.{concat}
 use Rattle.std.proofs.lemmas.List.{append-nil, map-append}
 use Rattle.std.proofs.lemmas.List.Folds.{concat-append}
@@ -12,7 +12,7 @@ use Rattle.gv_cmd.proofs.Lengths.{IsCommand-length}
 use Rattle.gv_fetch.specs.Items.{Items, none, command, batch, inside, is_end, depth, MayAllStand}
 use Rattle.gv_fetch.specs.Left.{Level, Fetched, At, Left, LevelMayStand, IsLeft}
 use Rattle.gv_gpu.specs.Device.{Device, Loaded}
-use Rattle.gv_scan.specs.Layout.{Layout, Begins, Copies, RingAt, BatchAt, AreCopies, IsLayout, AreWhole, FitsWindow, placed, placed_layout}
+use Rattle.gv_scan.specs.Layout.{Layout, Begins, Copies, BatchAt, AreCopies, IsLayout, FitsWindow, placed, placed_layout}
 use Rattle.gv_scan.proofs.Placing.{length-all, commands-front, copies-placed, ring-placed}
 use Rattle.gv_sring.specs.Copy.{Copied}
 use Rattle.gv_place.specs.Place.{LevelAt, Follows, StandsFor}

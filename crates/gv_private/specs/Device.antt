@@ -1,6 +1,6 @@
 -- One guest's private device, as if nothing were shared: all that it holds, and its resets. It has one memory,
 -- and the guest's own tables are read at every access.
-use Rattle.std.specs.Prelude.{ℕ, List, [], ◌∷◌, Bool, true, false, Option, None, Some, ◌==◌, if◌then◌else◌}
+use Rattle.std.specs.Prelude.{ℕ, List, [], ◌∷◌, Bool, true, false, Option, None, Some, if◌then◌else◌}
 use Rattle.std.specs.Option.{option_or}
 use Rattle.gv_types.specs.Maps.{put}
 use Rattle.gv_types.specs.Memory.{Memory, zero_memory}

@@ -1,7 +1,6 @@
 -- What the commands of an element at work reach of the private device: its memory, by the grants of the moment, and
 -- the engine's general registers.
-use Rattle.std.specs.Prelude.{ℕ, suc, zero, ◌+◌, ◌*◌, ◌/◌, ◌%◌, ◌^◌, List, Bool, true, false, max, Option, slice_index, slice_set}
-use Rattle.std.specs.Int.{to_le_bytes, from_le_bytes, w32, w64}
+use Rattle.std.specs.Prelude.{ℕ, suc, zero, ◌+◌, ◌*◌, ◌/◌, ◌%◌, ◌^◌, List, Bool, true, false, Option}
 use Rattle.gv_types.specs.Bits.{byte_of, with_byte}
 use Rattle.gv_types.specs.Memory.{Memory, half_of}
 use Rattle.gv_types.specs.declared.event.Width.TheVariants.{Four, Eight}

@@ -1,7 +1,6 @@
 -- The register table: which registers a guest's device has, by offset in bytes. An offset of no row is
 -- absent, and so is one that isn't a multiple of 4.
 use Rattle.std.specs.Prelude.{ℕ, ◌+◌, ◌-◌, ◌*◌, ◌/◌, ◌%◌, Bool, map, ◌==◌, ◌&&◌, ◌||◌, nat_le, nat_lt, if◌then◌else◌, List, [], ◌∷◌, ◌++◌, Option, Some, None}
-use Rattle.std.specs.Int.{bit_at}
 use Rattle.std.specs.List.{find, flat_map}
 use Rattle.gv_types.specs.Engines.{register_base}
 use Rattle.gv_types.specs.Bits.{has_bit}

@@ -1,21 +1,18 @@
 -- Items that are laid out are copied, and fit.
-use Rattle.std.proofs.Common.{◌≡◌, ℕ, suc, zero, ◌+◌, ◌*◌, ◌%◌, ◌^◌, ◌<◌, ◌≤◌, Bool, true, false, List, [], ◌∷◌, ◌++◌, length, length-append, append_assoc, Option, None, Some, refl, ap, sym, subst, ◌∙◌, arith}
+use Rattle.std.proofs.Common.{◌≡◌, ℕ, ◌+◌, ◌*◌, ◌%◌, ◌^◌, ◌≤◌, Bool, true, false, List, [], ◌∷◌, ◌++◌, length, length-append, append_assoc, Option, Some, refl, ap, sym, subst, ◌∙◌, arith}
 use Rattle.std.specs.List.{concat}
 use Rattle.std.specs.Bool.{MatchBool}
-use Rattle.std.proofs.lemmas.List.{append-nil}
 use Rattle.std.proofs.lemmas.List.Folds.{concat-append}
 use Rattle.gv_cmd.specs.Command.{IsCommand}
 use Rattle.gv_cmd.specs.Table.{kind_of}
 use Rattle.gv_cmd.specs.declared.kind.Kind.{Kind}
-use Rattle.gv_cmd.specs.declared.kind.Kind.TheVariants.{BatchEnd, BatchStart}
+use Rattle.gv_cmd.specs.declared.kind.Kind.TheVariants.{BatchStart}
 use Rattle.gv_cmd.specs.declared.stands.Stands.{Stands}
-use Rattle.gv_cmd.specs.declared.stands.Stands.TheVariants.{Ring, Privileged, Second}
 use Rattle.gv_fetch.specs.Items.{Items, none, command, batch, inside, is_fetched_start, is_end, MayAllStand, start_at}
-use Rattle.gv_fetch.specs.Left.{Level, Fetched, At, Left, LevelMayStand, IsLeft}
-use Rattle.gv_fetch.proofs.Readdressed.{SameStart, start_copied}
-use Rattle.gv_scan.specs.Layout.{Layout, Begins, Started, Copies, RingAt, BatchAt, IsCopy, AreCopies, StartsWithin}
-use Rattle.gv_fetch.specs.Flat.{own_dwords, batch_dwords, level_dwords, IsSized}
-use Rattle.gv_scan.specs.Lay.{Laid, lay, bytes_of, level_laid, level_place, first_offset, second_offset, layout_of, place_of}
+use Rattle.gv_fetch.proofs.Readdressed.{start_copied}
+use Rattle.gv_scan.specs.Layout.{Copies, IsCopy, AreCopies, StartsWithin}
+use Rattle.gv_fetch.specs.Flat.{own_dwords, batch_dwords}
+use Rattle.gv_scan.specs.Lay.{lay, bytes_of}
 
 -- ---- they are copied
 

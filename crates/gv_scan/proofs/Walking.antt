@@ -1,12 +1,12 @@
 -- Along a flat list, command by command.
-use Rattle.std.proofs.Common.{◌≡◌, ℕ, ◌+◌, ◌-◌, ◌*◌, ◌<◌, ◌≤◌, Bool, true, false, List, [], ◌∷◌, ◌++◌, length, length-append, length-drop, drop, take, append_assoc, Option, None, Some, Ok, Result, refl, ap, sym, subst, ◌∙◌, arith}
+use Rattle.std.proofs.Common.{◌≡◌, ℕ, ◌+◌, ◌*◌, ◌<◌, ◌≤◌, Bool, true, false, List, [], ◌++◌, length, length-append, length-drop, drop, take, append_assoc, Option, Some, Ok, Result, refl, ap, sym, subst, ◌∙◌, arith}
 use Rattle.std.specs.List.{concat}
 use Rattle.std.specs.Bool.{MatchBool}
 use Rattle.std.proofs.lemmas.Bool.{false≢true}
 use Rattle.std.proofs.lemmas.List.{append-nil, drop_at, drop-drop, take_at}
 use Rattle.std.proofs.lemmas.List.Folds.{concat-append}
 use Rattle.gv_cmd.specs.Allowed.{may_stand}
-use Rattle.gv_cmd.specs.Command.{IsCommand, decoded}
+use Rattle.gv_cmd.specs.Command.{decoded}
 use Rattle.gv_cmd.specs.Table.{kind_of}
 use Rattle.gv_cmd.specs.declared.command.Unlisted.{Unlisted}
 use Rattle.gv_cmd.specs.declared.kind.Kind.{Kind}

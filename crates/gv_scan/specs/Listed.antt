@@ -4,7 +4,7 @@ use Rattle.std.specs.List.{concat}
 use Rattle.gv_cmd.specs.Command.{IsCommand, decoded}
 use Rattle.gv_cmd.specs.declared.stands.Stands.{Stands}
 use Rattle.gv_cmd.specs.declared.stands.Stands.TheVariants.{Ring, Second}
-use Rattle.gv_fetch.specs.Items.{Items, MayAllStand, inside}
+use Rattle.gv_fetch.specs.Items.{Items, MayAllStand}
 use Rattle.gv_ctx.specs.declared.saved.Batch.{Batch}
 use Rattle.gv_ctx.specs.declared.saved.Saved.{Saved}
 use Rattle.gv_fetch.specs.Flat.{flat, level_dwords, IsSized}

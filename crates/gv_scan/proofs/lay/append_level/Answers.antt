@@ -1,4 +1,4 @@
-use Rattle.std.proofs.Common.{◌≡◌, ℕ, Some, sym, subst, length, false}
+use Rattle.std.proofs.Common.{ℕ, Some, sym, subst, length, false}
 use Rattle.gv_scan.specs.Listed.{BatchLaid, ListsBatch, LevelLists, LevelLaid}
 use Rattle.gv_scan.specs.declared.lay.Level.{Level}
 use Rattle.gv_scan.proofs.Joined.{level-few, level-laid}

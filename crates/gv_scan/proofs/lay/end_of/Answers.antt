@@ -1,8 +1,7 @@
-use Rattle.std.proofs.Common.{◌≡◌, ◌+◌, ◌-◌, ◌<◌, ◌≤◌, ◌∙◌, ℕ, drop, length, sym, ap, subst, arith}
+use Rattle.std.proofs.Common.{◌+◌, ◌∙◌, ℕ, length, sym, ap, subst, arith}
 use Rattle.std.proofs.lemmas.List.{take_rest}
 use Rattle.gv_cmd.specs.Command.{decoded}
-use Rattle.gv_fetch.specs.Flat.{flat}
-use Rattle.gv_scan.specs.Listed.{BeginsWithCommand, ListsSecond, SecondSoFar}
+use Rattle.gv_scan.specs.Listed.{BeginsWithCommand, SecondSoFar}
 use Rattle.gv_scan.proofs.Walking.{second-ends, second-goes, second-begins, second-within, second-front, second-long}
 use Rattle.gv_scan.proofs.lay.end_of.Goals as goal
 

@@ -1,10 +1,9 @@
-use Rattle.std.proofs.Common.{◌≡◌, ◌+◌, ◌-◌, ◌*◌, ◌<◌, ◌≤◌, ◌∙◌, ◌++◌, List, [], ℕ, drop, length, length-append, sym, ap, subst, arith}
+use Rattle.std.proofs.Common.{◌+◌, ◌*◌, ◌∙◌, ◌++◌, List, [], ℕ, length, length-append, sym, ap, subst, arith}
 use Rattle.std.proofs.lemmas.List.{take_rest}
 use Rattle.gv_cmd.specs.Command.{decoded}
 use Rattle.gv_fetch.specs.Items.{start_at}
-use Rattle.gv_fetch.specs.Flat.{flat}
 use Rattle.gv_scan.specs.Listed.{BeginsWithCommand, ListsBatch, ListsSecond, BatchSoFar, BatchLaid, SecondLaid}
-use Rattle.gv_scan.proofs.Walking.{batch-begins, batch-within, batch-front, batch-long, batch-three, batch-goes, batch-ends, batch-starts, second-there, inner}
+use Rattle.gv_scan.proofs.Walking.{batch-begins, batch-within, batch-front, batch-long, batch-three, batch-goes, batch-ends, batch-starts, second-there}
 use Rattle.gv_scan.proofs.lay.first_level.Goals as goal
 
 pub batch-init : goal.batch-init

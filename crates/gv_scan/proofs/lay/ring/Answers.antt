@@ -1,9 +1,8 @@
-use Rattle.std.proofs.Common.{◌≡◌, ◌+◌, ◌-◌, ◌*◌, ◌<◌, ◌≤◌, ◌∙◌, ◌++◌, List, [], ℕ, drop, length, length-append, sym, ap, subst, arith}
+use Rattle.std.proofs.Common.{◌+◌, ◌∙◌, ℕ, length, sym, ap, subst, arith}
 use Rattle.std.proofs.lemmas.List.{take_rest}
 use Rattle.gv_cmd.specs.Command.{decoded}
-use Rattle.gv_fetch.specs.Items.{start_at}
-use Rattle.gv_scan.specs.Listed.{BeginsWithCommand, ListsBatch, ListsRing, RingSoFar, BatchLaid}
-use Rattle.gv_scan.proofs.Walking.{ring-begins, ring-front, ring-long, ring-goes, ring-ends, ring-starts, ring-three, ring-behind, batch-there}
+use Rattle.gv_scan.specs.Listed.{BeginsWithCommand, ListsBatch, RingSoFar, BatchLaid}
+use Rattle.gv_scan.proofs.Walking.{ring-front, ring-long, ring-goes, ring-ends, ring-starts, ring-behind, batch-there}
 use Rattle.gv_scan.proofs.lay.ring.Goals as goal
 
 pub front-command-requires : goal.front-command-requires

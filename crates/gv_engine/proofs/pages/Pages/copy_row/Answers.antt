@@ -1,6 +1,6 @@
-use Rattle.std.proofs.Common.{ℕ, ◌+◌, List, Some, Option, IsSome, Bool, ap, sym, ◌∙◌, true}
+use Rattle.std.proofs.Common.{ℕ, List, Some, ap, sym, ◌∙◌}
 use Rattle.gv_arena.specs.Contents.{Contents, words_of, with_page}
-use Rattle.gv_engine.specs.Pages.{held_by, byte_in}
+use Rattle.gv_engine.specs.Pages.{held_by}
 use Rattle.gv_engine.proofs.ByteLemmas.{row_copied-is}
 use Rattle.gv_engine.proofs.PagesLemmas.{held-with_page}
 use Rattle.gv_engine.proofs.pages.Pages.copy_row.Goals as goal

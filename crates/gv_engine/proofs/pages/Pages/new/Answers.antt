@@ -2,9 +2,8 @@
 use Rattle.std.proofs.Common.{◌≡◌, ℕ, List, [], Option, None, get_or, ap, sym, ◌∙◌}
 use Rattle.std.specs.Option.{is_some}
 use Rattle.gv_types.specs.declared.ids.Label.{Label}
-use Rattle.gv_arena.specs.Contents.{Contents, is_live, live, words_at, words_or_none, nothing}
+use Rattle.gv_arena.specs.Contents.{Contents, live, words_at, words_or_none, nothing}
 use Rattle.gv_arena.proofs.Nothing.{words_at-nothing, live-nothing}
-use Rattle.gv_engine.specs.Pages.{nothing_held, held_by}
 use Rattle.gv_engine.proofs.pages.Pages.new.Goals as goal
 
 no_label : (labels : List (Option Label)) → labels ≡ [] → (page : ℕ) → get_or labels page None ≡ None

@@ -1,9 +1,7 @@
-use Rattle.std.proofs.Common.{ap, sym, ◌∙◌, get_or, ◌+◌, ◌/◌, refl, IsSome, Option, subst}
+use Rattle.std.proofs.Common.{ap, sym, ◌∙◌, get_or, ◌+◌}
 use Rattle.std.specs.Option.{is_some}
-use Rattle.gv_types.specs.Bits.{with_byte}
-use Rattle.gv_types.specs.declared.ids.Label.{Label}
 use Rattle.gv_engine.specs.Held.{held}
-use Rattle.gv_engine.specs.Pages.{Held, with_words, bytes_put}
+use Rattle.gv_engine.specs.Pages.{Held, bytes_put}
 use Rattle.gv_engine.proofs.PagesLemmas.{with_words-own, put-step}
 use Rattle.gv_engine.proofs.pages.Pages.store_bytes.Goals as goal
 

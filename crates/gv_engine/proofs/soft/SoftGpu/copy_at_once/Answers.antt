@@ -1,4 +1,4 @@
-use Rattle.std.proofs.Common.{◌≡◌, ◌||◌, ◌∙◌, Bool, false, ap, sym, subst, refl}
+use Rattle.std.proofs.Common.{◌||◌, ◌∙◌, false, ap, sym}
 use Rattle.gv_gpu.specs.Physical.{written_strays}
 use Rattle.gv_engine.specs.Pages.{Held}
 use Rattle.gv_engine.specs.Soft.{loaded_of, state_of}

@@ -1,8 +1,7 @@
-use Rattle.std.proofs.Common.{◌≡◌, ◌+◌, ◌-◌, ◌<◌, ◌∙◌, ℕ, false, sym, ap, arith, refl, inl, inr, get_or, subst, ◌≤◌}
+use Rattle.std.proofs.Common.{◌≡◌, ◌+◌, ◌-◌, ◌∙◌, ℕ, false, sym, ap, arith, refl, inl, inr, get_or}
 use Rattle.std.proofs.lemmas.Bool.{cases_lt}
 use Rattle.gv_gpu.specs.Device.{Device}
 use Rattle.gv_gpu.specs.Physical.{byte_at, read_strays}
-use Rattle.gv_gpu.specs.Step.{bytes_stray}
 use Rattle.gv_engine.specs.Soft.{loaded_of}
 use Rattle.gv_engine.specs.Whole.{whole}
 use Rattle.gv_engine.proofs.RowLemmas.{bytes_stray-none, stray-more}

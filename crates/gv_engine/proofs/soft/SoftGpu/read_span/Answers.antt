@@ -1,4 +1,4 @@
-use Rattle.std.proofs.Common.{ℕ, ◌%◌, ◌+◌, ◌<◌, ◌∙◌, sym, ap, arith, List}
+use Rattle.std.proofs.Common.{ℕ, ◌%◌, ◌+◌, ◌∙◌, sym, ap, arith, List}
 use Rattle.gv_engine.specs.Pages.{byte_in}
 use Rattle.gv_engine.specs.Whole.{whole}
 use Rattle.gv_engine.proofs.RowLemmas.{byte-absent, byte-there}

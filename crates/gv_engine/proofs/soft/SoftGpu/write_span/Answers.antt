@@ -1,4 +1,4 @@
-use Rattle.std.proofs.Common.{ℕ, ◌≡◌, ◌⊎◌, ◌||◌, ◌∙◌, ◌+◌, ap, sym, subst, get_or, false, inl, inr}
+use Rattle.std.proofs.Common.{◌≡◌, ◌⊎◌, ◌||◌, ◌∙◌, ◌+◌, ap, subst, get_or, false}
 use Rattle.gv_gpu.specs.Physical.{written_strays}
 use Rattle.gv_engine.specs.Running.{stepping}
 use Rattle.gv_engine.specs.Soft.{loaded_of}
