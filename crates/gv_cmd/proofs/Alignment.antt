@@ -2,7 +2,7 @@
 use Rattle.std.proofs.Common.{◌≡◌, ℕ, ◌+◌, ◌*◌, ◌/◌, ◌%◌, ◌^◌, ◌&&◌, not, Bool, true, false, List, [], ◌∷◌, get_or, Option, None, Some, cond, arith}
 use Rattle.std.specs.Prelude.{IfSome}
 use Rattle.gv_cmd.specs.Bits.{dword_address, quadword_address}
-use Rattle.gv_cmd.specs.Table.{Row, has_header, pipe_fields, colour_fields, copy_fields, table, kind_in, kind_of}
+use Rattle.gv_cmd.specs.Table.{CommandRow, has_header, pipe_fields, colour_fields, copy_fields, table, kind_in, kind_of}
 use Rattle.gv_cmd.specs.Simulation.{Access, IsAligned, AccessesAreAligned, dwords_at, post_accesses, accesses, EachAccess, MayDo}
 use Rattle.gv_cmd.specs.Effect.{is_skipped}
 use Rattle.gv_cmd.specs.declared.kind.PostWrite.{PostWrite}
@@ -41,11 +41,11 @@ where_fits true kind h = h
 where_fits false kind h = tt
 
 -- Each row's fields are such: so are those of the first one that a header names.
-abbrev RowsAligned : List ℕ → List Row → Type 0
+abbrev RowsAligned : List ℕ → List CommandRow → Type 0
 RowsAligned ws [] = Unit {0}
 RowsAligned ws (row ∷ rows) = IfSome (row.fields ws) AreAligned × RowsAligned ws rows
 
-first_aligned : (h : ℕ) (ws : List ℕ) (rows : List Row) → RowsAligned ws rows → IfSome (kind_in rows h ws) AreAligned
+first_aligned : (h : ℕ) (ws : List ℕ) (rows : List CommandRow) → RowsAligned ws rows → IfSome (kind_in rows h ws) AreAligned
 first_aligned h ws [] all = tt
 first_aligned h ws (row ∷ rows) all = by_if (has_header row h) (row.fields ws) _ all.0 (first_aligned h ws rows all.1)
 

@@ -5,7 +5,7 @@ use Rattle.std.proofs.lemmas.Bool.Decides.{nat_tests}
 use Rattle.gv_types.specs.Bits.{has_bit}
 use Rattle.gv_cmd.specs.Bits.{bits}
 use Rattle.gv_cmd.specs.Kind.{IsLength}
-use Rattle.gv_cmd.specs.Table.{Row, has_header, exactly, always, flush_length, untiled, blit_rows, table, length_in, length_of}
+use Rattle.gv_cmd.specs.Table.{CommandRow, has_header, exactly, always, flush_length, untiled, blit_rows, table, length_in, length_of}
 use Rattle.gv_cmd.specs.Command.{IsCommand, decoded}
 use Rattle.gv_cmd.proofs.Keeping.{decoded-append}
 
@@ -46,11 +46,11 @@ untiled_form : (n h : ℕ) → 1 ≤ n → n ≤ 65 → IfSome (untiled n h) IsL
 untiled_form n h some few = by_if (has_bit h 15 || has_bit h 11) None _ tt (exact n (bits h 7 0) some few)
 
 -- Each row's lengths are such: so is that of the first one that a header names.
-abbrev AreLengths : ℕ → List Row → Type 0
+abbrev AreLengths : ℕ → List CommandRow → Type 0
 AreLengths h [] = Unit {0}
 AreLengths h (row ∷ rows) = IfSome (row.dwords h) IsLength × AreLengths h rows
 
-first_form : (h : ℕ) (rows : List Row) → AreLengths h rows → IfSome (length_in rows h) IsLength
+first_form : (h : ℕ) (rows : List CommandRow) → AreLengths h rows → IfSome (length_in rows h) IsLength
 first_form h [] all = tt
 first_form h (row ∷ rows) all = by_if (has_header row h) (row.dwords h) _ all.0 (first_form h rows all.1)
 

@@ -8,7 +8,7 @@ use Rattle.gv_cmd.specs.declared.kind.Kind.{Kind}
 use Rattle.gv_cmd.specs.declared.kind.Kind.TheVariants.{Noop, UserInterrupt, ArbCheck, ArbOnOff, BatchEnd, SemaphoreWait, Store, LoadRegisters, StoreRegister, LoadRegister, MoveRegister, CopyMemory, Flush, PipeControl, BatchStart, ColourBlit, CopyBlit}
 
 -- A row. The header names it by its bits from 31 down.
-pub record Row : Type 0 where
+pub record CommandRow : Type 0 where
   pub lowest : ℕ  -- the lowest of these bits
   pub opcode : ℕ  -- what they are
   pub dwords : ℕ → Option ℕ  -- how many dwords the header says, or that the row has no such header
@@ -166,14 +166,14 @@ copy_blit ws = if is_plain 0xCC ws && is_small (copy_fields ws) then Some (CopyB
 -- ---- the rows
 
 -- Memory-interface commands have 0 in bits 31..29, and their opcode in bits 28..23. They have these fields.
-abbrev pub interface : ℕ → (ℕ → Option ℕ) → (List ℕ → Kind) → Row
+abbrev pub interface : ℕ → (ℕ → Option ℕ) → (List ℕ → Kind) → CommandRow
 interface opcode dwords fields = record { lowest = 23; opcode = opcode; dwords = dwords; fields = λ ws. Some (fields ws) }
 
 -- and these have none
-abbrev pub plain : ℕ → Kind → Row
+abbrev pub plain : ℕ → Kind → CommandRow
 plain opcode kind = interface opcode alone (λ ws. kind)
 
-abbrev pub interface_rows : List Row
+abbrev pub interface_rows : List CommandRow
 interface_rows =
     plain 0x00 Noop
     ∷ plain 0x02 UserInterrupt
@@ -192,33 +192,33 @@ interface_rows =
     ∷ []
 
 -- Blits have 2 in bits 31..29, and their opcode in bits 28..22.
-abbrev pub blit : ℕ → ℕ → (List ℕ → Option Kind) → Row
+abbrev pub blit : ℕ → ℕ → (List ℕ → Option Kind) → CommandRow
 blit opcode n fields = record { lowest = 22; opcode = 2 * 0x80 + opcode; dwords = untiled n; fields = fields }
 
-abbrev pub blit_rows : List Row
+abbrev pub blit_rows : List CommandRow
 blit_rows =
     blit 0x50 7 colour_blit  -- XY_COLOR_BLT
     ∷ blit 0x53 10 copy_blit  -- XY_SRC_COPY_BLT
     ∷ []
 
 -- PIPE_CONTROL is of the 3D pipeline: 3 in bits 31..29, then 3, 2 and 0
-abbrev pub pipe_row : Row
+abbrev pub pipe_row : CommandRow
 pipe_row = record { lowest = 16; opcode = 0x7A00; dwords = pipe_length; fields = pipe_control }
 
-abbrev pub table : List Row
+abbrev pub table : List CommandRow
 table = pipe_row ∷ interface_rows ++ blit_rows
 
 -- ---- the whole table
 
-abbrev pub has_header : Row → ℕ → Bool
+abbrev pub has_header : CommandRow → ℕ → Bool
 has_header row h = bits h 31 row.lowest == row.opcode
 
 -- by the first row that the header names
-abbrev pub length_in : List Row → ℕ → Option ℕ
+abbrev pub length_in : List CommandRow → ℕ → Option ℕ
 length_in [] h = None
 length_in (row ∷ rows) h = if has_header row h then row.dwords h else length_in rows h
 
-abbrev pub kind_in : List Row → ℕ → List ℕ → Option Kind
+abbrev pub kind_in : List CommandRow → ℕ → List ℕ → Option Kind
 kind_in [] h ws = None
 kind_in (row ∷ rows) h ws = if has_header row h then row.fields ws else kind_in rows h ws
 

@@ -1,10 +1,10 @@
-ghost use Rattle.std.specs.Prelude.{◌≡◌, ◌≤◌, ◌<◌, ◌+◌, ◌*◌, ◌^◌, ◌++◌, [], ℕ, Some, IfOk, OnOk, Ok, length};
+ghost use Rattle.std.specs.Prelude.{◌≡◌, ◌≤◌, ◌<◌, ◌+◌, ◌*◌, ◌^◌, ◌++◌, [], ℕ, ◌↔◌, IsTrue, Option, Some, IfOk, OnOk, Ok, length};
 ghost use Rattle.gv_cmd.specs.Command.{decoded};
 ghost use Rattle.gv_cmd.specs.Table.{kind_of};
 ghost use Rattle.gv_fetch.specs.Items.{is_end, is_fetched_start, start_at};
-ghost use Rattle.gv_fetch.specs.Flat.{flat};
-ghost use Rattle.gv_fetch.specs.Left.{Left};
-ghost use Rattle.gv_scan.specs.Listed.{BeginsWithCommand, ListsBatch, ListsSecond, ListsRing, SecondLaid, BatchLaid, RingLaid, LevelLists, LevelLaid, Lists, LaidOut};
+ghost use Rattle.gv_fetch.specs.Flat.{flat, AreNested};
+ghost use Rattle.gv_fetch.specs.Left.{Left, Level as LevelLeft};
+ghost use Rattle.gv_scan.specs.Listed.{BeginsWithCommand, ListsBatch, ListsSecond, ListsRing, SecondLaid, BatchLaid, RingLaid, ListsLevel, LevelLists, LevelLaid, Lists, LaidOut};
 
 use crate::Program;
 use gv_cmd::{Command, Kind, decode};
@@ -159,6 +159,19 @@ fn ring(alloc: Global, words: &[u32], batches: &mut Vec<u32>) -> Result<Vec<u32>
 pub enum Level<'a> {
     Fetched(&'a [u32]),
     Live(u64),
+}
+
+/// Whether batch levels stand as starts can have entered them: an inner one only within an outer one, and a fetched one within
+/// no live one.
+pub fn are_nested(outer: Option<Level>, inner: Option<Level>) -> bool
+    ensures { (first second : Option LevelLeft) → ListsLevel outer.entry first → ListsLevel inner.entry second → (IsTrue result ↔ AreNested first second) }
+{
+    match (outer, inner) {
+        (_, None) => true,
+        (None, Some(_)) => false,
+        (Some(Level::Live(_)), Some(Level::Fetched(_))) => false,
+        (Some(_), Some(_)) => true,
+    }
 }
 
 // Appends what is left of a batch level, and answers the place in it.

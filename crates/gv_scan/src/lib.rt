@@ -13,7 +13,7 @@ mod reader;
 mod ring;
 
 pub use fault::ScanFault;
-pub use lay::{Level, lay_out};
+pub use lay::{Level, are_nested, lay_out};
 pub use program::Program;
 pub use reader::Reader;
 pub use ring::scan;
