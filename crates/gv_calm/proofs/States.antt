@@ -9,7 +9,7 @@ use Rattle.gv_entry.specs.Tables.{any_entry, is_bad_entry, tables_named, live_be
 use Rattle.gv_fetch.specs.Items.{Items, none, command}
 use Rattle.gv_fetch.specs.Left.{begun}
 use Rattle.gv_irq.specs.Irq.{Interrupts}
-use Rattle.gv_regs.specs.Registers.{reset_registers, put as with_register}
+use Rattle.gv_regs.specs.Registers.{reset_registers, with_register}
 use Rattle.gv_private.specs.Device.{Engine, PrivateDevice, Working}
 use Rattle.gv_private.specs.Inputs.{answer}
 use Rattle.gv_calm.proofs.Memories.{Holds, Words, none-bad, guarded-tables}
