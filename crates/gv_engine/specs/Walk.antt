@@ -1,6 +1,6 @@
 -- What an access of an engine goes through: the tables of its walk, where it has them and they are live,
 -- and the entry at last.
-use Rattle.std.specs.Prelude.{ℕ, ◌/◌, ◌%◌, ◌==◌, ◌||◌, Bool, true, false, Option, None, Some, if◌then◌else◌}
+use Rattle.std.specs.Prelude.{ℕ, ◌||◌, Bool, true, false, Option, None, Some, if◌then◌else◌}
 use Rattle.gv_types.specs.Bits.{has_bit}
 use Rattle.gv_gpu.specs.Device.{Device}
 use Rattle.gv_gpu.specs.Physical.{live_page, third_table, second_table, first_table, leaf, physical_entry, page_of, page_strays, is_page}
