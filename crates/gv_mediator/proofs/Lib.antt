@@ -5,6 +5,7 @@ mod Copies
 mod Receiving
 mod Promised
 mod Lacking
+mod Answering
 mod Joining
 mod FirstGuests
 mod Memories

@@ -1,5 +1,5 @@
 -- What a reply promises of the guests' tables, from what the call of one guest promises of its own.
-use Rattle.std.proofs.Common.{◌≡◌, ℕ, ◌<◌, Bool, Some, Result, Ok, Err, IfOk, OnOk, Option, sym, ap, ◌∙◌, subst}
+use Rattle.std.proofs.Common.{◌≡◌, ℕ, ◌<◌, Bool, Some, Option, sym, ap, ◌∙◌, subst}
 use Rattle.std.proofs.lemmas.List.{get_or-set_same, length-set}
 use Rattle.std.specs.Vec.{with_item}
 use Rattle.gv_types.specs.declared.event.Event.{Event}
@@ -33,21 +33,13 @@ all-follow d m tied g v at =
     subst (FollowsTables d v) (sym (device-there d owners m.guests.items g v at ∙ ap (λ n. private_of d v (owns owners n)) (tied.ties.number g v at)))
     (tables_are_followed d v (owns owners g) (tied.ties.holds g v at))
 
-pub follow-ok : {A E : Type 0} (r : Result A E) (d : Device) (m : Mediator) (stopped : Bool) → OnOk r (Tied d m) → OnOk r (AllFollow d (record m { stopped = stopped }))
-follow-ok (Ok a) d m stopped tied = all-follow d m tied
-follow-ok (Err e) d m stopped tied = tt
-
 -- ---- grants
 
-all-exact : (d : Device) (m : Mediator) → Tied d m → AllExact d m
+pub all-exact : (d : Device) (m : Mediator) → Tied d m → AllExact d m
 all-exact d m tied g v at =
     let owners = owners_in m.rota in
     subst (GrantsAreExact d v (owns owners g)) (sym (device-there d owners m.guests.items g v at ∙ ap (λ n. private_of d v (owns owners n)) (tied.ties.number g v at)))
     (grants_stay_exact d v (owns owners g) (tied.ties.holds g v at))
-
-pub exact-ok : {A E : Type 0} (r : Result A E) (d : Device) (m : Mediator) (stopped : Bool) → OnOk r (Tied d m) → OnOk r (AllExact d (record m { stopped = stopped }))
-exact-ok (Ok a) d m stopped tied = all-exact d m tied
-exact-ok (Err e) d m stopped tied = tt
 
 -- ---- one guest's device among all
 
@@ -96,9 +88,3 @@ module _ (d e : Device) (m : Mediator) (k : ℕ) (old new : Vgpu) (stopped : Boo
     pokes-then (Reset guest) failsafe mine pokes = tt
     pokes-then (Turn engine) failsafe mine pokes = tt
     pokes-then (Switch engine) failsafe mine pokes = tt
-
--- ---- results
-
-pub ok-both : {A E : Type 0} (r : Result A E) (P Q R : A → Type 0) → IfOk r P → IfOk r Q → ((a : A) → P a → Q a → R a) → IfOk r R
-ok-both (Ok a) P Q R first second next = next a first second
-ok-both (Err e) P Q R first second next = tt

@@ -1,5 +1,5 @@
 -- The guest that takes an event, and what comes of it for the machine.
-use Rattle.std.proofs.Common.{◌≡◌, ℕ, ◌+◌, ◌*◌, ◌<◌, ◌≤◌, Bool, None, Some, List, [], ◌∷◌, ◌++◌, length, map, set, Result, Ok, Err, IfOk, OnOk, sym, ap, ◌∙◌, subst}
+use Rattle.std.proofs.Common.{◌≡◌, ℕ, ◌+◌, ◌*◌, ◌<◌, ◌≤◌, Bool, None, Some, List, [], ◌∷◌, ◌++◌, length, map, set, Result, Ok, Err, IfOk, IfErr, sym, ap, ◌∙◌, subst}
 use Rattle.std.proofs.lemmas.List.{append-nil, length-map, length-set}
 use Rattle.std.proofs.lemmas.Option.{none-some}
 use Rattle.std.specs.Vec.{with_item}
@@ -39,9 +39,9 @@ pub ok-all : {A E : Type 0} (r : Result A E) (P Q : A → Type 0) → IfOk r P �
 ok-all (Ok a) P Q is next = next a is
 ok-all (Err e) P Q is next = tt
 
-pub ok-then : {A E : Type 0} (r : Result A E) (P : A → Type 0) (T : Type 0) → IfOk r P → ((a : A) → P a → T) → OnOk r T
-ok-then (Ok a) P T is next = next a is
-ok-then (Err e) P T is next = tt
+pub err-all : {A E : Type 0} (r : Result A E) (P Q : E → Type 0) → IfErr r P → ((e : E) → P e → Q e) → IfErr r Q
+err-all (Ok a) P Q is next = tt
+err-all (Err e) P Q is next = next e is
 
 -- ---- the receiver
 

@@ -3,6 +3,7 @@ pub mod Tied
 pub mod Event
 pub mod Listed
 pub mod Tables
+pub mod Answers
 pub mod First
 pub mod Joining
 pub mod Laws

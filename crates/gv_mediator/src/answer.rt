@@ -1,19 +1,12 @@
-ghost use Rattle.std.specs.Prelude.{◌≡◌, ◌<◌, ◌≤◌, length, map, [], ◌∷◌, false, Some, is_err, IfOk, IfErr, OnOk, OnErr, IsErrOf};
-ghost use Rattle.gv_element.specs.Works.{KeepsEngines};
-ghost use Rattle.gv_gpu.specs.Change.{Ran};
-ghost use Rattle.gv_gpu.specs.Device.{counted};
+ghost use Rattle.std.specs.Prelude.{◌≡◌, ◌<◌, length, false, Some, is_err, IfOk, IfErr};
 ghost use Rattle.gv_gtt.specs.Gtt.{frames_of, number_of};
-ghost use Rattle.gv_machine.specs.Machine.{Happened, Machine, event_receiver, guest_in};
+ghost use Rattle.gv_machine.specs.Machine.{Machine, event_receiver, guest_in};
 ghost use Rattle.gv_sched.specs.Rota.{owner_of};
-ghost use Rattle.gv_private.specs.Inputs.{answer};
-ghost use Rattle.gv_vgpu.specs.Access.{AccessMoves, AccessPokes, Replies};
-ghost use Rattle.gv_vgpu.specs.Changes.{Stops};
-ghost use Rattle.gv_mediator.specs.Event.{GoesToDevice, IsEvent, IsGuestEvent, entries_ran, event_done};
-ghost use Rattle.gv_mediator.specs.Listed.{AnswersOnce, DeviceMayFault, DeviceMayLackMemory, EventMayFault, EventMayLackMemory, KeepsOwner};
-ghost use Rattle.gv_vgpu.specs.Vgpu.{private_of};
 ghost use Rattle.gv_vgpu.specs.Owners.{is_here};
 ghost use Rattle.gv_vgpu.specs.Standing.{HasRoomToLoad, Holds};
-ghost use Rattle.gv_mediator.specs.Tables.{AllCopiesStay, AllExact, AllFollow, EventMoves, EventOnce, EventPokes};
+ghost use Rattle.gv_mediator.specs.Answers.{Answers, StopsBy, DeviceAnswers, DeviceStopsBy};
+ghost use Rattle.gv_mediator.specs.Event.{GoesToDevice, IsEvent, IsGuestEvent};
+ghost use Rattle.gv_mediator.specs.Listed.{KeepsOwner};
 ghost use Rattle.gv_mediator.specs.Tied.{Tied, machine_of};
 
 use crate::mediator::Mediator;
@@ -36,14 +29,8 @@ fn answer<G: Gpu>(
     requires room { HasRoomToLoad (G.state gpu.old) device.old }
     requires below { (G.state gpu.old).live < 131072 }
     requires event { IsGuestEvent (number_of device.old.gtt) (length (frames_of device.old.gtt).pages) (is_here here) event.now }
-    ensures replies { IfOk result (λ reply. Replies (is_here here) (G.state gpu.old) (G.state gpu.new) device.old device.new (answer (private_of (G.state gpu.old) device.old (is_here here)) event.now) reply) }
-    ensures stops { IfErr result (λ stop. Stops (is_here here) (G.state gpu.old) (G.state gpu.new) device.old stop) }
-    ensures faults { IsErrOf result Stop.DeviceFault → DeviceMayFault (private_of (G.state gpu.old) device.old (is_here here)) event.now }
-    ensures lacks { IsErrOf result Stop.OutOfMemory → DeviceMayLackMemory (G.state gpu.old) (private_of (G.state gpu.old) device.old (is_here here)) event.now }
-    ensures unsubmitted { IsErrOf result Stop.OutOfMemory → KeepsEngines (G.state gpu.old) (G.state gpu.new) }
-    ensures once { IfOk result (λ reply. AnswersOnce (is_here here) (G.state gpu.old) (G.state gpu.new) device.old device.new event.now reply.answer) }
-    ensures moves { IfOk result (λ reply. AccessMoves (G.state gpu.new) device.old device.new event.now reply.answer) }
-    ensures pokes { IfOk result (λ reply. AccessPokes (G.state gpu.old) (G.state gpu.new) (private_of (G.state gpu.old) device.old (is_here here)) (private_of (G.state gpu.new) device.new (is_here here)) event.now reply.failsafe) }
+    ensures answers { IfOk result (λ reply. DeviceAnswers (is_here here) (G.state gpu.old) (G.state gpu.new) device.old device.new event.now reply) }
+    ensures stops { IfErr result (λ stop. DeviceStopsBy (is_here here) (G.state gpu.old) (G.state gpu.new) device.old event.now stop) }
 {
     match event {
         Event::Turn { engine } => {
@@ -90,21 +77,8 @@ impl Mediator {
         requires tied { Tied (G.state gpu.old) self.old }
         requires event { IsEvent (machine_of (G.state gpu.old) self.old) event.now }
         requires device { GoesToDevice event.now }
-        ensures reply { IfOk result (λ reply. map (λ (h : Happened). h.reply) (event_done (machine_of (G.state gpu.old) self.old) event.now).came ≡ reply ∷ []) }
-        ensures machine { OnOk result (machine_of (G.state gpu.new) self.new ≡ (event_done (machine_of (G.state gpu.old) self.old) event.now).left) }
-        ensures tied { OnOk result (Tied (G.state gpu.new) self.new) }
-        ensures ran { OnOk result (Ran (G.state gpu.old) (G.state gpu.new) (entries_ran (event_done (machine_of (G.state gpu.old) self.old) event.now).came)) }
-        ensures quiet { OnOk result ((G.state gpu.new).faults ≡ (G.state gpu.old).faults) }
-        ensures stopped { OnErr result (Ran (G.state gpu.old) (G.state gpu.new) []) }
-        ensures cause { IsErrOf result Stop.DeviceFault → counted (G.state gpu.old).faults ≤ (G.state gpu.new).faults }
-        ensures memory { IsErrOf result Stop.OutOfMemory → (G.state gpu.new).faults ≡ (G.state gpu.old).faults }
-        ensures faults { IsErrOf result Stop.DeviceFault → EventMayFault (machine_of (G.state gpu.old) self.old) event.now }
-        ensures lacks { IsErrOf result Stop.OutOfMemory → EventMayLackMemory (G.state gpu.old) (machine_of (G.state gpu.old) self.old) event.now }
-        ensures unsubmitted { IsErrOf result Stop.OutOfMemory → KeepsEngines (G.state gpu.old) (G.state gpu.new) }
-        ensures once { IfOk result (λ reply. EventOnce (G.state gpu.old) (G.state gpu.new) self.old self.new event.now reply.answer) }
-        ensures moves { IfOk result (λ reply. EventMoves (G.state gpu.new) self.old self.new event.now reply.answer) }
-        ensures copies { OnOk result (AllCopiesStay (G.state gpu.old) (G.state gpu.new) self.old self.new) }
-        ensures pokes { IfOk result (λ reply. EventPokes (G.state gpu.old) (G.state gpu.new) (machine_of (G.state gpu.old) self.old) (machine_of (G.state gpu.new) self.new) event.now reply.failsafe) }
+        ensures answers { IfOk result (λ reply. Answers (G.state gpu.old) (G.state gpu.new) self.old self.new event.now reply) }
+        ensures stops { IfErr result (λ stop. StopsBy (G.state gpu.old) (G.state gpu.new) self.old event.now stop) }
     {
         let guest = self.receiver(event);
         let here = self.owned_by(guest);
@@ -116,22 +90,9 @@ impl Mediator {
     fn received<G: Gpu>(&mut self, alloc: Global, gpu: &mut G, event: &Event) -> Result<Reply, Stop>
         requires tied { Tied (G.state gpu.old) self.old }
         requires event { IsEvent (machine_of (G.state gpu.old) self.old) event.now }
-        ensures reply { IfOk result (λ reply. map (λ (h : Happened). h.reply) (event_done (machine_of (G.state gpu.old) self.old) event.now).came ≡ reply ∷ []) }
-        ensures machine { OnOk result (machine_of (G.state gpu.new) self.new ≡ (event_done (machine_of (G.state gpu.old) self.old) event.now).left) }
-        ensures tied { OnOk result (Tied (G.state gpu.new) self.new) }
-        ensures ran { OnOk result (Ran (G.state gpu.old) (G.state gpu.new) (entries_ran (event_done (machine_of (G.state gpu.old) self.old) event.now).came)) }
-        ensures quiet { OnOk result ((G.state gpu.new).faults ≡ (G.state gpu.old).faults) }
-        ensures stopped { OnErr result (Ran (G.state gpu.old) (G.state gpu.new) []) }
-        ensures cause { IsErrOf result Stop.DeviceFault → counted (G.state gpu.old).faults ≤ (G.state gpu.new).faults }
-        ensures memory { IsErrOf result Stop.OutOfMemory → (G.state gpu.new).faults ≡ (G.state gpu.old).faults }
-        ensures faults { IsErrOf result Stop.DeviceFault → EventMayFault (machine_of (G.state gpu.old) self.old) event.now }
-        ensures lacks { IsErrOf result Stop.OutOfMemory → EventMayLackMemory (G.state gpu.old) (machine_of (G.state gpu.old) self.old) event.now }
-        ensures unsubmitted { IsErrOf result Stop.OutOfMemory → KeepsEngines (G.state gpu.old) (G.state gpu.new) }
+        ensures answers { IfOk result (λ reply. Answers (G.state gpu.old) (G.state gpu.new) self.old self.new event.now reply) }
+        ensures stops { IfErr result (λ stop. StopsBy (G.state gpu.old) (G.state gpu.new) self.old event.now stop) }
         ensures stays { KeepsOwner (machine_of (G.state gpu.old) self.old) event.now → G.state gpu.new ≡ G.state gpu.old }
-        ensures once { IfOk result (λ reply. EventOnce (G.state gpu.old) (G.state gpu.new) self.old self.new event.now reply.answer) }
-        ensures moves { IfOk result (λ reply. EventMoves (G.state gpu.new) self.old self.new event.now reply.answer) }
-        ensures copies { OnOk result (AllCopiesStay (G.state gpu.old) (G.state gpu.new) self.old self.new) }
-        ensures pokes { IfOk result (λ reply. EventPokes (G.state gpu.old) (G.state gpu.new) (machine_of (G.state gpu.old) self.old) (machine_of (G.state gpu.new) self.new) event.now reply.failsafe) }
     {
         match event {
             Event::Switch { engine } => match self.switch(gpu, *engine) {
@@ -142,11 +103,11 @@ impl Mediator {
         }
     }
 
-    /// One event: the reply is that of the machine, which is as after the event then. After a `Stop` no further event is
-    /// taken. `DeviceFault` comes only at a turn that isn't idle, at a reset, at an access at which the guest's device may fault, and at a
-    /// switch by which the owner changes; `OutOfMemory` only at a turn that isn't idle, at a move that isn't kept, and at a write of a live
-    /// table or of notify, and where no fault was counted; no engine's state changed then. A reply passes over no fault of
-    /// the device.
+    /// One event: the reply is that of the machine, which is as after the event then (`Answers`). After a `Stop`, which
+    /// leaves what `StopsBy` says, no further event is taken. `DeviceFault` comes only at a turn that isn't idle, at a
+    /// reset, at an access at which the guest's device may fault, and at a switch by which the owner changes;
+    /// `OutOfMemory` only at a turn that isn't idle, at a move that isn't kept, and at a write of a live table or of
+    /// notify, and where no fault was counted; no engine's state changed then. A reply passes over no fault of the device.
     pub fn event<G: Gpu>(
         &mut self,
         alloc: Global,
@@ -156,25 +117,10 @@ impl Mediator {
         requires tied { Tied (G.state gpu.old) self.old }
         requires running { self.old.stopped ≡ false }
         requires event { IsEvent (machine_of (G.state gpu.old) self.old) event.now }
-        ensures reply { IfOk result (λ reply. map (λ (h : Happened). h.reply) (event_done (machine_of (G.state gpu.old) self.old) event.now).came ≡ reply ∷ []) }
-        ensures machine { OnOk result (machine_of (G.state gpu.new) self.new ≡ (event_done (machine_of (G.state gpu.old) self.old) event.now).left) }
-        ensures tied { OnOk result (Tied (G.state gpu.new) self.new) }
-        ensures ran { OnOk result (Ran (G.state gpu.old) (G.state gpu.new) (entries_ran (event_done (machine_of (G.state gpu.old) self.old) event.now).came)) }
-        ensures quiet { OnOk result ((G.state gpu.new).faults ≡ (G.state gpu.old).faults) }
-        ensures stopped { OnErr result (Ran (G.state gpu.old) (G.state gpu.new) []) }
-        ensures stops { self.new.stopped ≡ is_err result }
-        ensures cause { IsErrOf result Stop.DeviceFault → counted (G.state gpu.old).faults ≤ (G.state gpu.new).faults }
-        ensures memory { IsErrOf result Stop.OutOfMemory → (G.state gpu.new).faults ≡ (G.state gpu.old).faults }
-        ensures faults { IsErrOf result Stop.DeviceFault → EventMayFault (machine_of (G.state gpu.old) self.old) event.now }
-        ensures lacks { IsErrOf result Stop.OutOfMemory → EventMayLackMemory (G.state gpu.old) (machine_of (G.state gpu.old) self.old) event.now }
-        ensures unsubmitted { IsErrOf result Stop.OutOfMemory → KeepsEngines (G.state gpu.old) (G.state gpu.new) }
+        ensures answers { IfOk result (λ reply. Answers (G.state gpu.old) (G.state gpu.new) self.old self.new event.now reply) }
+        ensures stops { IfErr result (λ stop. StopsBy (G.state gpu.old) (G.state gpu.new) self.old event.now stop) }
+        ensures stopped { self.new.stopped ≡ is_err result }
         ensures stays { KeepsOwner (machine_of (G.state gpu.old) self.old) event.now → G.state gpu.new ≡ G.state gpu.old }
-        ensures once { IfOk result (λ reply. EventOnce (G.state gpu.old) (G.state gpu.new) self.old self.new event.now reply.answer) }
-        ensures moves { IfOk result (λ reply. EventMoves (G.state gpu.new) self.old self.new event.now reply.answer) }
-        ensures copies { OnOk result (AllCopiesStay (G.state gpu.old) (G.state gpu.new) self.old self.new) }
-        ensures pokes { IfOk result (λ reply. EventPokes (G.state gpu.old) (G.state gpu.new) (machine_of (G.state gpu.old) self.old) (machine_of (G.state gpu.new) self.new) event.now reply.failsafe) }
-        ensures followed { OnOk result (AllFollow (G.state gpu.new) self.new) }
-        ensures exact { OnOk result (AllExact (G.state gpu.new) self.new) }
     {
         let answer = self.received(alloc, gpu, event);
         self.stopped = answer.is_err();

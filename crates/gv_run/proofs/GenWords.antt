@@ -1,6 +1,6 @@
 -- Words name one number at the most.
 use Rattle.std.proofs.Common.{◌≡◌, ℕ, List, Option, Some, None, sym, ◌∙◌, ap}
-use Rattle.gv_run.specs.Headline.{NamesGen}
+use Rattle.gv_words.specs.Names.{NamesGen}
 use Rattle.gv_words.specs.Task.{task_meant}
 use Rattle.gv_words.specs.declared.task.Task.{Task}
 use Rattle.gv_words.specs.declared.task.Task.TheVariants.{Run, Gen}

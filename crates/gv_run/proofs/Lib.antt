@@ -5,7 +5,9 @@ pub mod Finishing
 pub mod GenWords
 pub mod Guests
 pub mod Journal
+mod Commands
 pub mod Left
+pub mod CourseRuns
 pub mod Loops
 pub mod Making
 pub mod ManyTurns

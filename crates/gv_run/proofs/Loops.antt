@@ -52,10 +52,6 @@ pub going-over : (first : Machine) (inputs : List Input) (before : List ℕ) (st
 going-over first inputs before start m rest now d going none =
     goes-over (play input_course first inputs) before start (play input_course m rest) m now d going.goes (ap (play input_course m) none)
 
--- so far a front of the commands ran
-pub going-front : {first : Machine} {inputs : List Input} {before : List ℕ} {start : Device} {m : Machine} {rest : List Input} {now : List ℕ} {d : Device} → Going first inputs before start m rest now d → RanPart start d (entries_in (play input_course first inputs).came)
-going-front {first} {inputs} {before} {start} {m} {rest} {now} {d} going = goes-part (play input_course first inputs) before start (play input_course m rest) now d going.goes
-
 -- ---- writes
 
 -- the first of the writes that are left

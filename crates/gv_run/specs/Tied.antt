@@ -1,7 +1,7 @@
 -- How the machine stands in the shared device.
-use Rattle.std.specs.Prelude.{◌≡◌, ℕ, ◌-◌, ◌<◌, ◌≤◌, ◌++◌, [], ◌∷◌, List, Bool, true, false, ◌==◌, All, length, map, slice_index}
+use Rattle.std.specs.Prelude.{◌≡◌, ◌≢◌, ℕ, ◌-◌, ◌<◌, ◌≤◌, ◌++◌, [], ◌∷◌, List, Bool, true, false, ◌==◌, All, length, map, slice_index, Result, Err, OnOk}
 use Rattle.std.specs.List.{sum_by}
-use Rattle.gv_gpu.specs.Change.{Ran}
+use Rattle.gv_gpu.specs.Change.{Ran, RanPart}
 use Rattle.gv_gpu.specs.Device.{Device, JournalEntry, IsEmpty}
 use Rattle.gv_machine.specs.Course.{Course}
 use Rattle.gv_machine.specs.Machine.{Machine, Done, device_at, ran_all}
@@ -17,6 +17,8 @@ use Rattle.gv_text.specs.declared.known.Known.{Known}
 use Rattle.gv_text.specs.declared.script_line.Guest.{Guest as GuestForm}
 use Rattle.gv_run.specs.declared.stage.Stage.{Stage}
 use Rattle.gv_run.specs.declared.stage.Stage.TheVariants.{Gathering, Running}
+use Rattle.gv_run.specs.declared.stopped.Stopped.{Stopped}
+use Rattle.gv_run.specs.declared.stopped.Stopped.TheVariants as stops
 
 -- Each device has its guest's number, and each engine's owner is a guest that is there, or 0 where none is.
 pub record IsWhole (m : Machine) : Type 0 where
@@ -112,3 +114,19 @@ pub record Plays (c : Course Machine Done) (before : Device) (told : List ℕ) (
   pub machine : m ≡ c.left
   pub report : now ≡ told ++ text_of (said_all c.came)
   pub ran : Ran before after (entries_in c.came)
+
+-- What the run of a course leaves, one that goes to its end (`Ok`) and one that stops.
+pub record RunsCourse {T : Type 0} (c : Course Machine Done) (before : Device) (told : List ℕ) (after : Device) (m : Machine) (now : List ℕ) (result : Result T Stopped) : Type 0 where
+  -- at its end all of it was run
+  pub done : OnOk result (Plays c before told after m now)
+  -- and no fault of the device was passed over
+  pub quiet : OnOk result (after.faults ≡ before.faults)
+  -- wherever it stops, a front of its commands ran
+  pub part : RanPart before after (entries_in c.came)
+  -- it stops by the device only where a fault was counted
+  pub cause : result ≡ Err stops.Device → 0 < after.faults
+  -- and for want of memory only where none was
+  pub memory : result ≡ Err stops.OutOfMemory → after.faults ≡ before.faults
+  -- it neither reads the source nor writes to the sink
+  pub reads : result ≢ Err stops.Read
+  pub writes : result ≢ Err stops.Write

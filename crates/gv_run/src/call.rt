@@ -1,14 +1,10 @@
-ghost use Rattle.std.specs.Prelude.{◌≡◌, ◌≢◌, ℕ, ◌+◌, ◌^◌, ◌<◌, ◌≤◌, ◌⊎◌, length, IfSome, map, take, true, false};
-ghost use Rattle.std.specs.Io.KnownBytes.{Appends};
+ghost use Rattle.std.specs.Prelude.{◌≡◌, ◌≢◌, ℕ, ◌+◌, ◌≤◌, ◌⊎◌, IfSome, map};
 ghost use Rattle.gv_outside.specs.Causes.{Rose};
 ghost use Rattle.gv_gpu.specs.Device.{IsEmpty, counted};
-ghost use Rattle.gv_machine.specs.Report.{report_of, ending_of, machine_of, commands_in};
-ghost use Rattle.gv_vgpu.specs.Changes.{journal_entry};
-ghost use Rattle.gv_mediator.specs.Laws.{HasMemories};
 ghost use Rattle.gv_text.specs.Script.{script_limit};
-ghost use Rattle.gv_run.specs.Headline.{NamesRun, NamesGen, NamesNothing, status_of, status_of_stop, tells_ending, TakesAtMost, WritesPart, WritesPrivate, RanPartOf, RanFrontOf};
-ghost use Rattle.gv_run.specs.Made.{summary_made, entries_made, machine_made};
-ghost use Rattle.gv_run.specs.Streamed.{StopsAtFault, WritesFront};
+ghost use Rattle.gv_words.specs.Names.{NamesRun, NamesGen, NamesNothing};
+ghost use Rattle.gv_run.specs.Headline.{RunsScript, SumsUp, TakesAtMost, status_of, status_of_stop};
+ghost use Rattle.gv_run.specs.Streamed.{StopsAtFault};
 
 use crate::made::run_number;
 use crate::script::run_script;
@@ -90,25 +86,8 @@ fn run_source<S: Source, K: Sink, G: Gpu>(
     gpu: &mut G,
 ) -> Status
     requires empty { IsEmpty (G.state gpu.old) }
-    ensures ending { tells_ending result ≡ true → IfSome (S.left source.old) (λ bytes. result ≡ status_of (ending_of bytes)) }
-    ensures report { tells_ending result ≡ true → IfSome (S.left source.old) (λ bytes. Appends (K.held sink.old) (K.held sink.new) (report_of bytes)) }
-    ensures part { IfSome (S.left source.old) (WritesPart (K.held sink.old) (K.held sink.new)) }
-    ensures private { tells_ending result ≡ true → IfSome (S.left source.old) (WritesPrivate (K.held sink.old) (K.held sink.new)) }
-    ensures taken { TakesAtMost (script_limit + 1) (S.left source.old) (S.left source.new) }
-    ensures journal { tells_ending result ≡ true → IfSome (S.left source.old) (λ bytes. (G.state gpu.new).journal ≡ map journal_entry (commands_in bytes)) }
-    ensures journal_part { IfSome (S.left source.old) (RanPartOf (G.state gpu.new)) }
-    ensures strays { (G.state gpu.new).strays ≡ 0 }
-    ensures pages { result ≡ Status.Done → IfSome (S.left source.old) (λ bytes. HasMemories (G.state gpu.new) (machine_of bytes)) }
-    ensures fault { result ≡ Status.ReadFault → IfSome (S.left source.old) (λ bytes.
-        StopsAtFault (S.left source.old) (S.left source.new) (K.held sink.old) (K.held sink.new)) }
-    ensures words { result ≢ Status.BadWords }
-    ensures read { result ≡ Status.ReadFault → Rose (S.faults source.old) (S.faults source.new) }
-    ensures write { result ≡ Status.WriteFault → Rose (K.faults sink.old) (K.faults sink.new) }
-    ensures device { result ≡ Status.DeviceFault → counted (G.state gpu.old).faults ≤ (G.state gpu.new).faults }
-    ensures quiet { result ≢ Status.DeviceFault → (G.state gpu.new).faults ≡ (G.state gpu.old).faults }
-    ensures complete { ¬ Rose (S.faults source.old) (S.faults source.new) → ¬ Rose (K.faults sink.old) (K.faults sink.new)
-        → ¬ (counted (G.state gpu.old).faults ≤ (G.state gpu.new).faults)
-        → result ≢ Status.OutOfMemory → tells_ending result ≡ true }
+    ensures { RunsScript result (S.left source.old) (S.left source.new) (S.faults source.old) (S.faults source.new)
+        (K.held sink.old) (K.held sink.new) (K.faults sink.old) (K.faults sink.new) (G.state gpu.old) (G.state gpu.new) }
 {
     match run_script(alloc, source, sink, gpu) {
         Ok(ending) => status_of(ending),
@@ -119,21 +98,7 @@ fn run_source<S: Source, K: Sink, G: Gpu>(
 // The command `gen` with this number.
 fn sum_number_up<K: Sink, G: Gpu>(alloc: Global, number: u32, sink: &mut K, gpu: &mut G) -> Status
     requires empty { IsEmpty (G.state gpu.old) }
-    ensures summary { result ≡ Status.Done → Appends (K.held sink.old) (K.held sink.new) (summary_made number) }
-    ensures part { WritesFront (summary_made number) (K.held sink.old) (K.held sink.new) }
-    ensures journal { result ≡ Status.Done → (G.state gpu.new).journal ≡ entries_made number }
-    ensures journal_part { RanFrontOf (entries_made number) (G.state gpu.new) }
-    ensures strays { (G.state gpu.new).strays ≡ 0 }
-    ensures pages { result ≡ Status.Done → HasMemories (G.state gpu.new) (machine_made number) }
-    ensures ending { tells_ending result ≡ true → result ≡ Status.Done }
-    ensures words { result ≢ Status.BadWords }
-    ensures read { result ≢ Status.ReadFault }
-    ensures write { result ≡ Status.WriteFault → Rose (K.faults sink.old) (K.faults sink.new) }
-    ensures device { result ≡ Status.DeviceFault → counted (G.state gpu.old).faults ≤ (G.state gpu.new).faults }
-    ensures quiet { result ≢ Status.DeviceFault → (G.state gpu.new).faults ≡ (G.state gpu.old).faults }
-    ensures complete { ¬ Rose (K.faults sink.old) (K.faults sink.new)
-        → ¬ (counted (G.state gpu.old).faults ≤ (G.state gpu.new).faults)
-        → result ≢ Status.OutOfMemory → result ≡ Status.Done }
+    ensures { SumsUp number result (K.held sink.old) (K.held sink.new) (K.faults sink.old) (K.faults sink.new) (G.state gpu.old) (G.state gpu.new) }
 {
     match run_number(alloc, number, sink, gpu) {
         Ok(()) => Status::Done,
@@ -158,68 +123,31 @@ pub fn mediate<S: Source, K: Sink, G: Gpu>(
 ) -> Status
     requires empty { IsEmpty (G.state gpu.old) }
 
-    // For `run`, what is written is the report of one unshared device for each guest.
-    ensures ending { NamesRun (map (λ word. word.now) words.now)
-        → tells_ending result ≡ true → IfSome (S.left source.old) (λ bytes. result ≡ status_of (ending_of bytes)) }
-    ensures report { NamesRun (map (λ word. word.now) words.now)
-        → tells_ending result ≡ true → IfSome (S.left source.old) (λ bytes. Appends (K.held sink.old) (K.held sink.new) (report_of bytes)) }
-    ensures part { NamesRun (map (λ word. word.now) words.now)
-        → IfSome (S.left source.old) (WritesPart (K.held sink.old) (K.held sink.new)) }
-    ensures private { NamesRun (map (λ word. word.now) words.now)
-        → tells_ending result ≡ true → IfSome (S.left source.old) (WritesPrivate (K.held sink.old) (K.held sink.new)) }
-
-    // No byte is taken behind the first one past the limit.
-    ensures taken { TakesAtMost (script_limit + 1) (S.left source.old) (S.left source.new) }
-
-    // The device ran these devices' commands, touched no page of another guest, and has their memory.
-    ensures journal { NamesRun (map (λ word. word.now) words.now)
-        → tells_ending result ≡ true → IfSome (S.left source.old) (λ bytes. (G.state gpu.new).journal ≡ map journal_entry (commands_in bytes)) }
-    ensures journal_part { NamesRun (map (λ word. word.now) words.now)
-        → IfSome (S.left source.old) (RanPartOf (G.state gpu.new)) }
-    ensures strays { (G.state gpu.new).strays ≡ 0 }
-    ensures pages { NamesRun (map (λ word. word.now) words.now)
-        → result ≡ Status.Done → IfSome (S.left source.old) (λ bytes. HasMemories (G.state gpu.new) (machine_of bytes)) }
-
-    // A line is run as soon as its line feed was taken, and what it says is written before a read fault is
-    // answered: the report of exactly the lines whose line feed was taken, none of which ends the script.
-    ensures fault { result ≡ Status.ReadFault → IfSome (S.left source.old) (λ bytes.
-        StopsAtFault (S.left source.old) (S.left source.new) (K.held sink.old) (K.held sink.new)) }
-
-    // For `gen`, what is written is the summary of such a report, of the script that the number makes.
-    ensures summary { (number : ℕ) → NamesGen (map (λ word. word.now) words.now) number
-        → result ≡ Status.Done → Appends (K.held sink.old) (K.held sink.new) (summary_made number) }
-    ensures summary_part { (number : ℕ) → NamesGen (map (λ word. word.now) words.now) number
-        → WritesFront (summary_made number) (K.held sink.old) (K.held sink.new) }
-    ensures made_journal { (number : ℕ) → NamesGen (map (λ word. word.now) words.now) number
-        → result ≡ Status.Done → (G.state gpu.new).journal ≡ entries_made number }
-    ensures made_journal_part { (number : ℕ) → NamesGen (map (λ word. word.now) words.now) number
-        → RanFrontOf (entries_made number) (G.state gpu.new) }
-    ensures made_pages { (number : ℕ) → NamesGen (map (λ word. word.now) words.now) number
-        → result ≡ Status.Done → HasMemories (G.state gpu.new) (machine_made number) }
-
-    // It leaves the source alone, and such a script is never refused, nor too long.
+    // What each command promises: `run`, and `gen` with a number, which leaves the source alone.
+    ensures runs { NamesRun (map (λ word. word.now) words.now)
+        → RunsScript result (S.left source.old) (S.left source.new) (S.faults source.old) (S.faults source.new)
+        (K.held sink.old) (K.held sink.new) (K.faults sink.old) (K.faults sink.new) (G.state gpu.old) (G.state gpu.new) }
+    ensures sums_up { (number : ℕ) → NamesGen (map (λ word. word.now) words.now) number
+        → SumsUp number result (K.held sink.old) (K.held sink.new) (K.faults sink.old) (K.faults sink.new) (G.state gpu.old) (G.state gpu.new) }
     ensures unread { (number : ℕ) → NamesGen (map (λ word. word.now) words.now) number → source.new ≡ source.old }
-    ensures no_read_fault { (number : ℕ) → NamesGen (map (λ word. word.now) words.now) number → result ≢ Status.ReadFault }
-    ensures no_refusal { (number : ℕ) → NamesGen (map (λ word. word.now) words.now) number
-        → tells_ending result ≡ true → result ≡ Status.Done }
 
-    // Why each other status comes. Reading the words takes memory, which may be wanting. A fault of the device is never
-    // passed over, nor told as anything else.
+    // Words that name neither. Reading the words takes memory, which may be wanting.
     ensures words { result ≡ Status.BadWords → NamesNothing (map (λ word. word.now) words.now) }
     ensures refused { NamesNothing (map (λ word. word.now) words.now) → (result ≡ Status.BadWords) ⊎ (result ≡ Status.OutOfMemory) }
     ensures unchanged { NamesNothing (map (λ word. word.now) words.now) → (source.new ≡ source.old) × (sink.new ≡ sink.old) × (gpu.new ≡ gpu.old) }
+
+    // And whatever the words: no engine touches a page of another guest, no byte is taken behind the first one past the limit,
+    // and at a read fault the report of exactly the lines whose line feed was taken was written, none of which ends the script.
+    ensures strays { (G.state gpu.new).strays ≡ 0 }
+    ensures taken { TakesAtMost (script_limit + 1) (S.left source.old) (S.left source.new) }
+    ensures fault { result ≡ Status.ReadFault → IfSome (S.left source.old) (λ bytes.
+        StopsAtFault (S.left source.old) (S.left source.new) (K.held sink.old) (K.held sink.new)) }
+
+    // A fault is answered only where it was counted. One of the device is never passed over, nor told as anything else.
     ensures read { result ≡ Status.ReadFault → Rose (S.faults source.old) (S.faults source.new) }
     ensures write { result ≡ Status.WriteFault → Rose (K.faults sink.old) (K.faults sink.new) }
     ensures device { result ≡ Status.DeviceFault → counted (G.state gpu.old).faults ≤ (G.state gpu.new).faults }
     ensures quiet { result ≢ Status.DeviceFault → (G.state gpu.new).faults ≡ (G.state gpu.old).faults }
-    ensures complete { NamesRun (map (λ word. word.now) words.now)
-        → ¬ Rose (S.faults source.old) (S.faults source.new) → ¬ Rose (K.faults sink.old) (K.faults sink.new)
-        → ¬ (counted (G.state gpu.old).faults ≤ (G.state gpu.new).faults)
-        → result ≢ Status.OutOfMemory → tells_ending result ≡ true }
-    ensures made_complete { (number : ℕ) → NamesGen (map (λ word. word.now) words.now) number
-        → ¬ Rose (K.faults sink.old) (K.faults sink.new)
-        → ¬ (counted (G.state gpu.old).faults ≤ (G.state gpu.new).faults)
-        → result ≢ Status.OutOfMemory → result ≡ Status.Done }
 {
     match task_of(alloc, words) {
         Ok(Task::Run) => run_source(alloc, source, sink, gpu),

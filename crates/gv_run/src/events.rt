@@ -1,9 +1,8 @@
-ghost use Rattle.std.specs.Prelude.{◌≡◌, ◌≢◌, ℕ, ◌+◌, ◌*◌, ◌%◌, ◌/◌, ◌^◌, ◌<◌, ◌≤◌, length, OnOk};
+ghost use Rattle.std.specs.Prelude.{◌≡◌, ℕ, ◌+◌, ◌*◌, ◌%◌, ◌/◌, ◌^◌, ◌<◌, ◌≤◌, length, OnOk};
 ghost use Rattle.std.specs.List.{AllByRecursion};
 ghost use Rattle.gv_types.specs.Places.{address_limit};
 ghost use Rattle.gv_types.specs.Memory.{bytes_of};
 ghost use Rattle.gv_types.specs.Engines.{register_base};
-ghost use Rattle.gv_gpu.specs.Change.{RanPart};
 ghost use Rattle.gv_private.specs.Inputs.{event as one_event};
 ghost use Rattle.gv_machine.specs.Course.{play};
 ghost use Rattle.gv_machine.specs.Machine.{input_course, inputs_in, writes_of, port_writes, port_values};
@@ -11,7 +10,7 @@ ghost use Rattle.gv_mediator.specs.Event.{IsEvent};
 ghost use Rattle.gv_mediator.specs.Tied.{machine_of};
 ghost use Rattle.gv_text.specs.Grammar.{value_limit};
 ghost use Rattle.gv_run.specs.Lines.{IsEventLine, event_of, IsToldAlone};
-ghost use Rattle.gv_run.specs.Tied.{Stands, Plays, entries_in};
+ghost use Rattle.gv_run.specs.Tied.{Stands, RunsCourse};
 
 use crate::stopped::Stopped;
 use crate::tell::tell_reply;
@@ -35,14 +34,8 @@ fn event<G: Gpu>(
     requires event { IsEvent (machine_of (G.state gpu.old) mediator.old) event.now }
     requires alone { IsToldAlone event.now }
     ensures stands { OnOk result (Stands (G.state gpu.new) mediator.new) }
-    ensures done { OnOk result (Plays (input_course (machine_of (G.state gpu.old) mediator.old) (one_event event.now))
-        (G.state gpu.old) report.old (G.state gpu.new) (machine_of (G.state gpu.new) mediator.new) report.new) }
-    ensures part { RanPart (G.state gpu.old) (G.state gpu.new) (entries_in (input_course (machine_of (G.state gpu.old) mediator.old) (one_event event.now)).came) }
-    ensures cause { result ≡ Err Stopped.Device → 0 < (G.state gpu.new).faults }
-    ensures quiet { OnOk result ((G.state gpu.new).faults ≡ (G.state gpu.old).faults) }
-    ensures memory { result ≡ Err Stopped.OutOfMemory → (G.state gpu.new).faults ≡ (G.state gpu.old).faults }
-    ensures reads { result ≢ Err Stopped.Read }
-    ensures writes { result ≢ Err Stopped.Write }
+    ensures runs { RunsCourse (input_course (machine_of (G.state gpu.old) mediator.old) (one_event event.now))
+        (G.state gpu.old) report.old (G.state gpu.new) (machine_of (G.state gpu.new) mediator.new) report.new result }
 {
     let reply = mediator.event(alloc, gpu, event)?;
     tell_reply(report, event, &reply)?;
@@ -67,15 +60,8 @@ fn writes<G: Gpu>(
     requires within { at + bytes_of width * length values.now ≤ address_limit place }
     requires fit { AllByRecursion (λ value. value < value_limit width) values.now }
     ensures stands { OnOk result (Stands (G.state gpu.new) mediator.new) }
-    ensures done { OnOk result (Plays (play input_course (machine_of (G.state gpu.old) mediator.old) (writes_of guest place width at values.now))
-        (G.state gpu.old) report.old (G.state gpu.new) (machine_of (G.state gpu.new) mediator.new) report.new) }
-    ensures part { RanPart (G.state gpu.old) (G.state gpu.new)
-        (entries_in (play input_course (machine_of (G.state gpu.old) mediator.old) (writes_of guest place width at values.now)).came) }
-    ensures cause { result ≡ Err Stopped.Device → 0 < (G.state gpu.new).faults }
-    ensures quiet { OnOk result ((G.state gpu.new).faults ≡ (G.state gpu.old).faults) }
-    ensures memory { result ≡ Err Stopped.OutOfMemory → (G.state gpu.new).faults ≡ (G.state gpu.old).faults }
-    ensures reads { result ≢ Err Stopped.Read }
-    ensures writes { result ≢ Err Stopped.Write }
+    ensures runs { RunsCourse (play input_course (machine_of (G.state gpu.old) mediator.old) (writes_of guest place width at values.now))
+        (G.state gpu.old) report.old (G.state gpu.new) (machine_of (G.state gpu.new) mediator.new) report.new result }
 {
     for (index, value) in values.iter().enumerate() {
         let write = Event::Write {
@@ -116,15 +102,8 @@ fn submit<G: Gpu>(
     requires there { guest.0 < length (machine_of (G.state gpu.old) mediator.old).devices }
     requires fit { AllByRecursion (λ value. value < 2 ^ 32) values.now }
     ensures stands { OnOk result (Stands (G.state gpu.new) mediator.new) }
-    ensures done { OnOk result (Plays (play input_course (machine_of (G.state gpu.old) mediator.old) (port_writes guest engine values.now))
-        (G.state gpu.old) report.old (G.state gpu.new) (machine_of (G.state gpu.new) mediator.new) report.new) }
-    ensures part { RanPart (G.state gpu.old) (G.state gpu.new)
-        (entries_in (play input_course (machine_of (G.state gpu.old) mediator.old) (port_writes guest engine values.now)).came) }
-    ensures cause { result ≡ Err Stopped.Device → 0 < (G.state gpu.new).faults }
-    ensures quiet { OnOk result ((G.state gpu.new).faults ≡ (G.state gpu.old).faults) }
-    ensures memory { result ≡ Err Stopped.OutOfMemory → (G.state gpu.new).faults ≡ (G.state gpu.old).faults }
-    ensures reads { result ≢ Err Stopped.Read }
-    ensures writes { result ≢ Err Stopped.Write }
+    ensures runs { RunsCourse (play input_course (machine_of (G.state gpu.old) mediator.old) (port_writes guest engine values.now))
+        (G.state gpu.old) report.old (G.state gpu.new) (machine_of (G.state gpu.new) mediator.new) report.new result }
 {
     for value in values {
         let write = Event::Write {
@@ -162,15 +141,8 @@ pub(crate) fn run_line<G: Gpu>(
     requires stands { Stands (G.state gpu.old) mediator.old }
     requires line { IsEventLine (machine_of (G.state gpu.old) mediator.old) line.now }
     ensures stands { OnOk result (Stands (G.state gpu.new) mediator.new) }
-    ensures done { OnOk result (Plays (play input_course (machine_of (G.state gpu.old) mediator.old) (inputs_in line.now))
-        (G.state gpu.old) report.old (G.state gpu.new) (machine_of (G.state gpu.new) mediator.new) report.new) }
-    ensures part { RanPart (G.state gpu.old) (G.state gpu.new)
-        (entries_in (play input_course (machine_of (G.state gpu.old) mediator.old) (inputs_in line.now)).came) }
-    ensures cause { result ≡ Err Stopped.Device → 0 < (G.state gpu.new).faults }
-    ensures quiet { OnOk result ((G.state gpu.new).faults ≡ (G.state gpu.old).faults) }
-    ensures memory { result ≡ Err Stopped.OutOfMemory → (G.state gpu.new).faults ≡ (G.state gpu.old).faults }
-    ensures reads { result ≢ Err Stopped.Read }
-    ensures writes { result ≢ Err Stopped.Write }
+    ensures runs { RunsCourse (play input_course (machine_of (G.state gpu.old) mediator.old) (inputs_in line.now))
+        (G.state gpu.old) report.old (G.state gpu.new) (machine_of (G.state gpu.new) mediator.new) report.new result }
 {
     match line {
         Line::Write {

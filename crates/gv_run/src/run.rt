@@ -6,12 +6,12 @@ ghost use Rattle.gv_text.specs.Report.{text_of};
 ghost use Rattle.gv_text.specs.Script.{nothing_known, has_room, accepts, known_after, want_of};
 ghost use Rattle.gv_text.specs.declared.script_line.Line.TheVariants.{Guest as GuestLine};
 ghost use Rattle.gv_text.specs.declared.ending.Ending.TheVariants.{Done as DoneThere};
-ghost use Rattle.gv_gpu.specs.Change.{Ran, RanPart};
+ghost use Rattle.gv_gpu.specs.Change.{Ran};
 ghost use Rattle.gv_machine.specs.Machine.{line_course};
 ghost use Rattle.gv_machine.specs.Report.{ending_said};
 ghost use Rattle.gv_mediator.specs.Laws.{HasMemories};
 ghost use Rattle.gv_run.specs.Lines.{is_event_line};
-ghost use Rattle.gv_run.specs.Tied.{machine_in, entries_in};
+ghost use Rattle.gv_run.specs.Tied.{machine_in};
 
 use crate::ending::tell_ending;
 use crate::events::run_line;
@@ -35,7 +35,7 @@ pub struct Run {
 }
 
 impl Run {
-    ghost use Rattle.gv_run.specs.Tied.{Agrees, Plays, Joins, is_first, is_running};
+    ghost use Rattle.gv_run.specs.Tied.{Agrees, RunsCourse, Joins, is_first, is_running};
 
     /// Before the first line.
     pub fn new(alloc: Global) -> Result<Run, OutOfMemory>
@@ -93,14 +93,8 @@ impl Run {
         requires event { is_event_line line.now ≡ true }
         ensures agrees { OnOk result (Agrees (G.state gpu.new) (known_after self.old.known line.now) self.new.stage) }
         ensures known { self.new.known ≡ self.old.known }
-        ensures done { OnOk result (Plays (line_course (machine_in (G.state gpu.old) self.old.stage) line.now)
-            (G.state gpu.old) self.old.report (G.state gpu.new) (machine_in (G.state gpu.new) self.new.stage) self.new.report) }
-        ensures part { RanPart (G.state gpu.old) (G.state gpu.new) (entries_in (line_course (machine_in (G.state gpu.old) self.old.stage) line.now).came) }
-        ensures cause { result ≡ Err Stopped.Device → 0 < (G.state gpu.new).faults }
-        ensures quiet { OnOk result ((G.state gpu.new).faults ≡ (G.state gpu.old).faults) }
-        ensures memory { result ≡ Err Stopped.OutOfMemory → (G.state gpu.new).faults ≡ (G.state gpu.old).faults }
-        ensures reads { result ≢ Err Stopped.Read }
-        ensures writes { result ≢ Err Stopped.Write }
+        ensures runs { RunsCourse (line_course (machine_in (G.state gpu.old) self.old.stage) line.now)
+            (G.state gpu.old) self.old.report (G.state gpu.new) (machine_in (G.state gpu.new) self.new.stage) self.new.report result }
     {
         self.begin(alloc, gpu)?;
         if let Stage::Running(mediator) = &mut self.stage {
@@ -116,14 +110,8 @@ impl Run {
         requires form { IsForm line.now }
         ensures agrees { OnOk result (Agrees (G.state gpu.new) (known_after self.old.known line.now) self.new.stage) }
         ensures known { self.new.known ≡ self.old.known }
-        ensures done { OnOk result (Plays (line_course (machine_in (G.state gpu.old) self.old.stage) line.now)
-            (G.state gpu.old) self.old.report (G.state gpu.new) (machine_in (G.state gpu.new) self.new.stage) self.new.report) }
-        ensures part { RanPart (G.state gpu.old) (G.state gpu.new) (entries_in (line_course (machine_in (G.state gpu.old) self.old.stage) line.now).came) }
-        ensures cause { result ≡ Err Stopped.Device → 0 < (G.state gpu.new).faults }
-        ensures quiet { OnOk result ((G.state gpu.new).faults ≡ (G.state gpu.old).faults) }
-        ensures memory { result ≡ Err Stopped.OutOfMemory → (G.state gpu.new).faults ≡ (G.state gpu.old).faults }
-        ensures reads { result ≢ Err Stopped.Read }
-        ensures writes { result ≢ Err Stopped.Write }
+        ensures runs { RunsCourse (line_course (machine_in (G.state gpu.old) self.old.stage) line.now)
+            (G.state gpu.old) self.old.report (G.state gpu.new) (machine_in (G.state gpu.new) self.new.stage) self.new.report result }
     {
         match line {
             Line::Blank => Ok(()),
@@ -146,14 +134,8 @@ impl Run {
         requires form { IsForm line.now }
         ensures agrees { OnOk result (Agrees (G.state gpu.new) self.new.known self.new.stage) }
         ensures known { OnOk result (self.new.known ≡ known_after self.old.known line.now) }
-        ensures done { OnOk result (Plays (line_course (machine_in (G.state gpu.old) self.old.stage) line.now)
-            (G.state gpu.old) self.old.report (G.state gpu.new) (machine_in (G.state gpu.new) self.new.stage) self.new.report) }
-        ensures part { RanPart (G.state gpu.old) (G.state gpu.new) (entries_in (line_course (machine_in (G.state gpu.old) self.old.stage) line.now).came) }
-        ensures cause { result ≡ Err Stopped.Device → 0 < (G.state gpu.new).faults }
-        ensures quiet { OnOk result ((G.state gpu.new).faults ≡ (G.state gpu.old).faults) }
-        ensures memory { result ≡ Err Stopped.OutOfMemory → (G.state gpu.new).faults ≡ (G.state gpu.old).faults }
-        ensures reads { result ≢ Err Stopped.Read }
-        ensures writes { result ≢ Err Stopped.Write }
+        ensures runs { RunsCourse (line_course (machine_in (G.state gpu.old) self.old.stage) line.now)
+            (G.state gpu.old) self.old.report (G.state gpu.new) (machine_in (G.state gpu.new) self.new.stage) self.new.report result }
     {
         self.act(alloc, gpu, line)?;
         self.known = self.known.after(line);

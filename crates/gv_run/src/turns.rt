@@ -1,12 +1,11 @@
-ghost use Rattle.std.specs.Prelude.{◌≡◌, ◌≢◌, ℕ, ◌+◌, ◌<◌, ◌≤◌, ◌^◌, ◌-◌, ◌++◌, All, length, OnOk, slice_set, slice_index};
-ghost use Rattle.gv_gpu.specs.Change.{RanPart};
+ghost use Rattle.std.specs.Prelude.{◌≡◌, ℕ, ◌+◌, ◌<◌, ◌≤◌, ◌^◌, ◌-◌, ◌++◌, All, length, OnOk, slice_set, slice_index};
 ghost use Rattle.gv_private.specs.Inputs.{turns as all_turns};
 ghost use Rattle.gv_machine.specs.Machine.{input_course};
 ghost use Rattle.gv_machine.specs.Report.{column_of};
 ghost use Rattle.gv_mediator.specs.Tied.{machine_of};
 ghost use Rattle.gv_text.specs.Report.{text_of};
 ghost use Rattle.gv_run.specs.Lines.{turns_line};
-ghost use Rattle.gv_run.specs.Tied.{Stands, Plays, entries_in};
+ghost use Rattle.gv_run.specs.Tied.{Stands, RunsCourse};
 
 use crate::stopped::Stopped;
 use crate::tell::{tell, tell_alarms};
@@ -82,15 +81,8 @@ pub(crate) fn turns<G: Gpu>(
     requires some { 0 < length (machine_of (G.state gpu.old) mediator.old).devices }
     requires engine { engine.0 < 4 }
     ensures stands { OnOk result (Stands (G.state gpu.new) mediator.new) }
-    ensures done { OnOk result (Plays (input_course (machine_of (G.state gpu.old) mediator.old) (all_turns engine count))
-        (G.state gpu.old) report.old (G.state gpu.new) (machine_of (G.state gpu.new) mediator.new) report.new) }
-    ensures part { RanPart (G.state gpu.old) (G.state gpu.new)
-        (entries_in (input_course (machine_of (G.state gpu.old) mediator.old) (all_turns engine count)).came) }
-    ensures cause { result ≡ Err Stopped.Device → 0 < (G.state gpu.new).faults }
-    ensures quiet { OnOk result ((G.state gpu.new).faults ≡ (G.state gpu.old).faults) }
-    ensures memory { result ≡ Err Stopped.OutOfMemory → (G.state gpu.new).faults ≡ (G.state gpu.old).faults }
-    ensures reads { result ≢ Err Stopped.Read }
-    ensures writes { result ≢ Err Stopped.Write }
+    ensures runs { RunsCourse (input_course (machine_of (G.state gpu.old) mediator.old) (all_turns engine count))
+        (G.state gpu.old) report.old (G.state gpu.new) (machine_of (G.state gpu.new) mediator.new) report.new result }
 {
     let mut counts = [0u32; 6];
     let mut owner = GuestId(0);

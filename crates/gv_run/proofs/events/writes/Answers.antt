@@ -1,5 +1,6 @@
 use Rattle.std.proofs.Common.{◌≡◌, ℕ, ◌+◌, ◌*◌, ◌%◌, ◌<◌, length, get_or, drop, refl, sym, ap, subst, arith, ◌∙◌}
 use Rattle.std.proofs.lemmas.List.{drop_all}
+use Rattle.std.proofs.lemmas.Result.{err_from_is_err_and}
 use Rattle.gv_types.specs.Memory.{bytes_of}
 use Rattle.gv_types.specs.Places.{address_limit}
 use Rattle.gv_types.specs.declared.event.Event.TheVariants.{Write}
@@ -9,7 +10,8 @@ use Rattle.gv_machine.specs.Machine.{input_course, writes_of}
 use Rattle.gv_mediator.specs.Tied.{machine_of}
 use Rattle.gv_text.specs.Grammar.{value_limit}
 use Rattle.gv_run.specs.Tied.{Plays, entries_in}
-use Rattle.gv_run.proofs.Loops.{going-all, going-on, going-part, going-front, going-over, write-first, all-at, value-fits, still-aligned, inside-place}
+use Rattle.gv_run.proofs.CourseRuns.{runs-done, runs-within}
+use Rattle.gv_run.proofs.Loops.{going-all, going-on, going-part, going-over, write-first, all-at, value-fits, still-aligned, inside-place}
 use Rattle.gv_run.proofs.events.writes.Goals as goal
 
 pub loop-index-init : goal.loop-index-init
@@ -55,16 +57,16 @@ loop-index-preserved g c =
     let left = writes_of c.args.guest c.args.place c.args.width (c.args.at + bytes_of c.args.width * i) (drop i values) in
     let rest = writes_of c.args.guest c.args.place c.args.width (c.args.at + bytes_of c.args.width * (i + 1)) (drop (i + 1) values) in
     let write = λ (bytes : ℕ). event (Write c.args.guest c.args.place c.args.width (c.args.at + bytes * i) (get_or values i 0)) in
-    let plays = subst (λ b. Plays (input_course m (write b)) d c.loop-index.report e after c.event.new.report) c.bytes.ensures c.in_ok-event.ensures.done in
+    let plays = subst (λ b. Plays (input_course m (write b)) d c.loop-index.report e after c.event.new.report) c.bytes.ensures c.in_ok-event.ensures.runs.done in
     record {
       stands = c.in_ok-event.ensures.stands;
-      quiet = c.in_ok-event.ensures.quiet ∙ c.loop-index.invariant.quiet;
+      quiet = c.in_ok-event.ensures.runs.quiet ∙ c.loop-index.invariant.quiet;
       going = going-on first all c.args.report.now start m (write (bytes_of c.args.width)) rest left c.loop-index.report d c.loop-index.invariant.going
           (write-first c.args.guest c.args.place c.args.width c.args.at values i (omega arith)) after c.event.new.report e plays;
     }
 
-pub returns-in_err-event-clause-part : goal.returns-in_err-event-clause-part
-returns-in_err-event-clause-part g c =
+pub returns-in_err-event-clause-runs : goal.returns-in_err-event-clause-runs
+returns-in_err-event-clause-runs g c =
     let i = c.loop-index.index in
     let values = c.args.values.now in
     let start = g.G.Gpu.state c.args.gpu.now in
@@ -76,20 +78,20 @@ returns-in_err-event-clause-part g c =
     let left = writes_of c.args.guest c.args.place c.args.width (c.args.at + bytes_of c.args.width * i) (drop i values) in
     let rest = writes_of c.args.guest c.args.place c.args.width (c.args.at + bytes_of c.args.width * (i + 1)) (drop (i + 1) values) in
     let write = λ (bytes : ℕ). event (Write c.args.guest c.args.place c.args.width (c.args.at + bytes * i) (get_or values i 0)) in
-    let part = subst (λ b. RanPart d e (entries_in (input_course m (write b)).came)) c.bytes.ensures c.event.ensures.part in
-    going-part first all c.args.report.now start m (write (bytes_of c.args.width)) rest left c.loop-index.report d c.loop-index.invariant.going
-    (write-first c.args.guest c.args.place c.args.width c.args.at values i (omega arith)) e part
+    let part = subst (λ b. RanPart d e (entries_in (input_course m (write b)).came)) c.bytes.ensures c.event.ensures.runs.part in
+    let went = going-part first all c.args.report.now start m (write (bytes_of c.args.width)) rest left c.loop-index.report d c.loop-index.invariant.going
+    (write-first c.args.guest c.args.place c.args.width c.args.at values i (omega arith)) e part in
+    let p = err_from_is_err_and c.from_residual.result c.from_residual.ensures.1 in
+    rw (p.1, p.2) (runs-within _ _ _ _ _ _ _ c.in_err-event.field-0.0 _ _ _ _ _ c.in_err-event.ensures.runs refl went c.loop-index.invariant.quiet)
 
-pub returns-clause-done : goal.returns-clause-done
-returns-clause-done g c =
+pub returns-clause-runs : goal.returns-clause-runs
+returns-clause-runs g c =
     let i = c.loop-index.index in
     let start = g.G.Gpu.state c.args.gpu.now in
     let d = g.G.Gpu.state c.loop-index.gpu in
     let values = c.args.values.now in
     let at = c.args.at + bytes_of c.args.width * i in
-    going-over (machine_of start c.args.mediator.now) (writes_of c.args.guest c.args.place c.args.width c.args.at values) c.args.report.now start (machine_of d c.loop-index.mediator)
+    let plays = going-over (machine_of start c.args.mediator.now) (writes_of c.args.guest c.args.place c.args.width c.args.at values) c.args.report.now start (machine_of d c.loop-index.mediator)
     (writes_of c.args.guest c.args.place c.args.width at (drop i values)) c.loop-index.report d c.loop-index.invariant.going
-    (ap (writes_of c.args.guest c.args.place c.args.width at) (drop_all i values (omega arith)))
-
-pub returns-clause-part : goal.returns-clause-part
-returns-clause-part g c = going-front c.loop-index.invariant.going
+    (ap (writes_of c.args.guest c.args.place c.args.width at) (drop_all i values (omega arith))) in
+    runs-done _ _ _ _ _ _ _ plays c.loop-index.invariant.quiet

@@ -46,17 +46,17 @@ returns-in_err-line-clause-written g c = made-front c.args.number _ _ (making-fr
 pub returns-in_err-line-clause-ran : goal.returns-in_err-line-clause-ran
 returns-in_err-line-clause-ran g c =
     made-ran c.args.number _ _ (making-began c.loop-line.invariant.making c.in-Some.line c.next.new.self c.in-Some.ensures.steps
-    (sym c.is_end.ensures ∙ c.if-is_end.false) (g.G.Gpu.state c.line.new.gpu) c.in_err-line.ensures.part)
+    (sym c.is_end.ensures ∙ c.if-is_end.false) (g.G.Gpu.state c.line.new.gpu) c.in_err-line.ensures.runs.part)
 
 pub loop-line-preserved : goal.loop-line-preserved
 loop-line-preserved g c =
     let e = g.G.Gpu.state c.line.new.gpu in
-    let done = c.in_ok-line.ensures.done in
+    let done = c.in_ok-line.ensures.runs.done in
     let more = making-more c.loop-line.invariant.making c.in-Some.line c.next.new.self c.in-Some.ensures.steps (sym c.is_end.ensures ∙ c.if-is_end.false)
     (machine_in e c.line.new.self.stage) c.line.new.self.report e c.line.new.self.known c.in_ok-line.ensures.known done.machine done.report done.ran in
     record {
       agrees = c.in_ok-line.ensures.agrees;
-      quiet = c.in_ok-line.ensures.quiet ∙ c.loop-line.invariant.quiet;
+      quiet = c.in_ok-line.ensures.runs.quiet ∙ c.loop-line.invariant.quiet;
       making = making-passed more c.pass_to.new.self (got c.pass_to.new.outlet (g.K.Sink.held c.pass_to.new.sink)) c.pass_to.ensures.passes;
       strays = done.ran.strays ∙ c.loop-line.invariant.strays;
       writes = omega (arith, c.loop-line.invariant.writes, c.pass_to.ensures.cause.later);
@@ -65,7 +65,7 @@ loop-line-preserved g c =
 pub returns-in_err-pass_to-clause-written : goal.returns-in_err-pass_to-clause-written
 returns-in_err-pass_to-clause-written g c =
     let e = g.G.Gpu.state c.line.new.gpu in
-    let done = c.in_ok-line.ensures.done in
+    let done = c.in_ok-line.ensures.runs.done in
     let more = making-more c.loop-line.invariant.making c.in-Some.line c.next.new.self c.in-Some.ensures.steps (sym c.is_end.ensures ∙ c.if-is_end.false)
     (machine_in e c.line.new.self.stage) c.line.new.self.report e c.line.new.self.known c.in_ok-line.ensures.known done.machine done.report done.ran in
     made-front c.args.number _ _ (making-front (making-passed more c.pass_to.new.self (got c.pass_to.new.outlet (g.K.Sink.held c.pass_to.new.sink)) c.pass_to.ensures.passes))
@@ -73,7 +73,7 @@ returns-in_err-pass_to-clause-written g c =
 pub returns-in_err-pass_to-clause-ran : goal.returns-in_err-pass_to-clause-ran
 returns-in_err-pass_to-clause-ran g c =
     let e = g.G.Gpu.state c.line.new.gpu in
-    let done = c.in_ok-line.ensures.done in
+    let done = c.in_ok-line.ensures.runs.done in
     let more = making-more c.loop-line.invariant.making c.in-Some.line c.next.new.self c.in-Some.ensures.steps (sym c.is_end.ensures ∙ c.if-is_end.false)
     (machine_in e c.line.new.self.stage) c.line.new.self.report e c.line.new.self.known c.in_ok-line.ensures.known done.machine done.report done.ran in
     made-ran c.args.number _ _ (making-ran more)

@@ -107,7 +107,7 @@ pub returns-in_err-line-clause-begun : goal.returns-in_err-line-clause-begun
 returns-in_err-line-clause-begun g c =
     let is = ap (accepted c.loop-next.run.known) (sym c.line-bytes.ensures) ∙ sym c.accepted.ensures.value ∙ c.in-Some-accepted.is in
     reading-began c.loop-next.invariant.reading c.advance.new.self (g.S.Source.left c.advance.new.source) c.in-Ok.next c.in-Ok.ensures.tells
-    (sym c.ending_at.ensures ∙ c.in_default-ending_at.is) c.in-Some-accepted.line is (sym c.is_end.ensures ∙ c.if-is_end.false) (g.G.Gpu.state c.line.new.gpu) c.in_err-line.ensures.part
+    (sym c.ending_at.ensures ∙ c.in_default-ending_at.is) c.in-Some-accepted.line is (sym c.is_end.ensures ∙ c.if-is_end.false) (g.G.Gpu.state c.line.new.gpu) c.in_err-line.ensures.runs.part
 
 pub returns-in_err-line-clause-taken : goal.returns-in_err-line-clause-taken
 returns-in_err-line-clause-taken g c =
@@ -116,7 +116,7 @@ returns-in_err-line-clause-taken g c =
 pub returns-in_err-pass_on-clause-begun : goal.returns-in_err-pass_on-clause-begun
 returns-in_err-pass_on-clause-begun g c =
     let is = ap (accepted c.loop-next.run.known) (sym c.line-bytes.ensures) ∙ sym c.accepted.ensures.value ∙ c.in-Some-accepted.is in
-    let done = c.in_ok-line.ensures.done in
+    let done = c.in_ok-line.ensures.runs.done in
     reading-began_last c.loop-next.invariant.reading c.advance.new.self (g.S.Source.left c.advance.new.source) c.in-Ok.next c.in-Ok.ensures.tells
     (sym c.ending_at.ensures ∙ c.in_default-ending_at.is) c.in-Some-accepted.line is (sym c.is_end.ensures ∙ c.if-is_end.false)
     _ c.line.new.self.report (g.G.Gpu.state c.line.new.gpu) done.machine done.report done.ran c.pass_on.new.self (g.K.Sink.held c.pass_on.new.sink) c.pass_on.ensures.passes
@@ -133,7 +133,7 @@ overflow_add-number g c = omega (arith, script_limit-is)
 pub returns-then-is_last-clause-done : goal.returns-then-is_last-clause-done
 returns-then-is_last-clause-done g c =
     let is = ap (accepted c.loop-next.run.known) (sym c.line-bytes.ensures) ∙ sym c.accepted.ensures.value ∙ c.in-Some-accepted.is in
-    let done = c.in_ok-line.ensures.done in
+    let done = c.in_ok-line.ensures.runs.done in
     reading-last c.loop-next.invariant.reading c.advance.new.self (g.S.Source.left c.advance.new.source) c.in-Ok.next c.in-Ok.ensures.tells
     (sym c.ending_at.ensures ∙ c.in_default-ending_at.is) c.in-Some-accepted.line is (sym c.is_end.ensures ∙ c.if-is_end.false)
     _ c.line.new.self.report (g.G.Gpu.state c.line.new.gpu) done.machine done.report done.ran
@@ -142,7 +142,7 @@ returns-then-is_last-clause-done g c =
 pub returns-then-is_last-clause-begun : goal.returns-then-is_last-clause-begun
 returns-then-is_last-clause-begun g c =
     let is = ap (accepted c.loop-next.run.known) (sym c.line-bytes.ensures) ∙ sym c.accepted.ensures.value ∙ c.in-Some-accepted.is in
-    let done = c.in_ok-line.ensures.done in
+    let done = c.in_ok-line.ensures.runs.done in
     reading-began_last c.loop-next.invariant.reading c.advance.new.self (g.S.Source.left c.advance.new.source) c.in-Ok.next c.in-Ok.ensures.tells
     (sym c.ending_at.ensures ∙ c.in_default-ending_at.is) c.in-Some-accepted.line is (sym c.is_end.ensures ∙ c.if-is_end.false)
     _ c.line.new.self.report (g.G.Gpu.state c.line.new.gpu) done.machine done.report done.ran c.pass_on.new.self (g.K.Sink.held c.pass_on.new.sink) c.pass_on.ensures.passes
@@ -173,19 +173,19 @@ loop-next-preserved g c =
     let hands = subst (λ (next : Next). HandsOut c.loop-next.reader t (left c.loop-next.source) (left c.advance.new.source) (bytes_of next t.line)) line c.in-Ok.ensures.hands_out in
     let plain = subst (λ (next : Next). IsOneLine next t.line) line c.in-Ok.ensures.one_line in
     let is = ap (accepted c.loop-next.run.known) (sym c.line-bytes.ensures) ∙ sym c.accepted.ensures.value ∙ c.in-Some-accepted.is in
-    let done = c.in_ok-line.ensures.done in
+    let done = c.in_ok-line.ensures.runs.done in
     let m = machine_in e c.line.new.self.stage in
     let more = reading-more c.loop-next.invariant.reading t (left c.advance.new.source) c.in-Ok.next c.in-Ok.ensures.tells
     going c.in-Some-accepted.line is (sym c.is_end.ensures ∙ c.if-is_end.false) m c.line.new.self.report e done.machine done.report done.ran plain hands in
     let known = subst (λ (known : Known). Reading start (held c.args.sink.now) (left c.args.source.now) t (left c.advance.new.source) known (n + 1) m c.line.new.self.report e (held c.loop-next.sink)) (sym c.in_ok-line.ensures.known) more in
     record {
       agrees = c.in_ok-line.ensures.agrees;
-      quiet = c.in_ok-line.ensures.quiet ∙ c.loop-next.invariant.quiet;
+      quiet = c.in_ok-line.ensures.runs.quiet ∙ c.loop-next.invariant.quiet;
       reading = reading-passed known c.pass_on.new.self (held c.pass_on.new.sink) c.pass_on.ensures.passes;
       numbered = number-more c.loop-next.reader t (left c.loop-next.source) (left c.advance.new.source) t.line hands n c.loop-next.invariant.numbered;
       within = omega (arith, c.advance.ensures.bound, hands.limit, c.loop-next.invariant.limit);
       limit = hands.limit ∙ c.loop-next.invariant.limit;
-      strays = c.in_ok-line.ensures.done.ran.strays ∙ c.loop-next.invariant.strays;
+      strays = c.in_ok-line.ensures.runs.done.ran.strays ∙ c.loop-next.invariant.strays;
       reads = omega (arith, c.loop-next.invariant.reads, c.advance.ensures.cause.later);
       writes = omega (arith, c.loop-next.invariant.writes, c.pass_on.ensures.cause.later);
     }
